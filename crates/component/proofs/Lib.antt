@@ -1,0 +1,13 @@
+pub mod Parts
+pub mod Fitting
+pub mod Ends
+pub mod Inside
+pub mod Steps
+pub mod Walk
+pub mod Walking
+pub mod Laying
+pub mod Opening
+pub mod Sound
+pub mod Complete
+pub mod Composes
+pub mod Decoding

@@ -1,0 +1,131 @@
+-- The layout of one component, as the reader decides it from left to right.
+use Prim.Native.Nat.{ℕ, zero, suc, _+_, _-_}
+use mathlib.Core.Bool.{Bool, true, false, _||_}
+use mathlib.Core.List.{List, [], _∷_}
+use lib.ListN.{length, getD}
+use lib.Dec.{ltb, leb, eqb}
+use Rattle.element.specs.declared.Length as L
+use Rattle.element.specs.declared.Length.the-variants as LV
+use Rattle.element.specs.declared.Identifier as I
+use Rattle.element.specs.declared.Identifier.the-variants as IV
+use Rattle.element.specs.Octets.{Octets, if, between}
+use Rattle.element.specs.Answer.{Answer, accepted, refused, _>>=_, _>>_, check}
+use Rattle.element.specs.Length.{lengthAt}
+use Rattle.element.specs.Identifier.{identifierAt}
+
+-- ---- one element
+pub record Span : Type 0 where
+  pub start : ℕ
+  pub end : ℕ
+
+abbrev pub span : (start end : ℕ) → Span
+span start end = record { start = start; end = end }
+
+abbrev pub sizeOf : Span → ℕ
+sizeOf x = x .end - x .start
+
+unfoldable pub spanOf : (at from end : ℕ) → L.Length → Answer Span
+spanOf at from end (LV.Is value octets) = do
+  check (leb (from + octets + value) end) 5 at
+  accepted (span (from + octets) (from + octets + value))
+spanOf at from end LV.Wrong = refused 4 from
+
+-- the contents of the element at `at`, whose length field stands at `from`, in a parent that ends at `end`
+unfoldable pub contents : Octets → (at from end : ℕ) → Answer Span
+contents s at from end = spanOf at from end (lengthAt (between from end s))
+
+-- the element of one identifier octet that is wanted at `at`: another octet there is refused by `number`
+unfoldable pub wanted : Octets → (octet number at end : ℕ) → Answer Span
+wanted s octet number at end = do
+  check (ltb at end) 5 end
+  check (eqb (getD s at 0) octet) number at
+  contents s at (at + 1) end
+
+-- the set of parameters that is wanted at `at`, and has to end where its parent ends
+unfoldable pub setAt : Octets → (at end : ℕ) → Answer Span
+setAt s at end = do
+  f ← wanted s 0xF2 8 at end
+  check (eqb (f .end) end) 5 (f .end)
+  accepted f
+
+-- ---- all but the parameters
+pub record Head : Type 0 where
+  pub kind : ℕ
+  pub id : Span
+  pub operation : ℕ  -- the specifier's place in an INVOKE, 0 in a RESULT
+  pub set : Span
+
+-- the operation code behind the component ID `i`, and the set behind it
+unfoldable pub operation : Octets → (i : Span) (end : ℕ) → Answer Head
+operation s i end = do
+  d ← wanted s 0xD1 7 (i .end) end
+  check (eqb (sizeOf d) 2) 7 (i .end)
+  check (eqb (getD s (d .start) 0) 9) 7 (i .end)
+  f ← setAt s (d .end) end
+  accepted (record { kind = 0xE9; id = i; operation = d .start + 1; set = f })
+
+unfoldable pub invoke : Octets → Span → Answer Head
+invoke s x = do
+  i ← wanted s 0xCF 6 (x .start) (x .end)
+  check (leb (sizeOf i) 2) 6 (x .start)
+  operation s i (x .end)
+
+unfoldable pub result : Octets → Span → Answer Head
+result s x = do
+  i ← wanted s 0xCF 6 (x .start) (x .end)
+  check (eqb (sizeOf i) 1) 6 (x .start)
+  f ← setAt s (i .end) (x .end)
+  accepted (record { kind = 0xEA; id = i; operation = 0; set = f })
+
+unfoldable pub headOf : Octets → Answer Head
+headOf s = do
+  check (ltb 0 (length s)) 2 0
+  check (leb (length s) 4096) 2 0
+  check (eqb (getD s 0 0) 0xE9 || eqb (getD s 0 0) 0xEA) 3 0
+  x ← contents s 0 1 (length s)
+  check (eqb (x .end) (length s)) 5 (x .end)
+  if (eqb (getD s 0 0) 0xE9) (invoke s x) (result s x)
+
+-- ---- parameters
+pub record Entry : Type 0 where
+  pub number : ℕ
+  pub form : ℕ
+  pub place : ℕ
+  pub start : ℕ
+  pub size : ℕ
+
+-- where the next one stands
+abbrev pub next : Entry → ℕ
+next e = e .start + e .size
+
+unfoldable pub parameter : Octets → (at end : ℕ) → I.Identifier → Answer Entry
+parameter s at end (IV.Is number form octets) = do
+  x ← contents s at (at + octets) end
+  accepted (record { number = number; form = form; place = at; start = x .start; size = sizeOf x })
+parameter s at end IV.IllFormed = refused 9 at
+parameter s at end IV.TooLarge = refused 18 at
+
+unfoldable pub parameterAt : Octets → (at end : ℕ) → Answer Entry
+parameterAt s at end = parameter s at end (identifierAt (between at end s))
+
+-- the parameters from `at` to `end`, where `room` more are allowed
+unfoldable pub parameters : (room : ℕ) → Octets → (at end : ℕ) → Answer (List Entry)
+parameters zero s at end = do
+  check (leb end at) 10 at
+  accepted []
+parameters (suc room) s at end =
+    if (leb end at) (accepted []) do
+      e ← parameterAt s at end
+      es ← parameters room s (next e) end
+      accepted (e ∷ es)
+
+-- ---- the component
+pub record Layout : Type 0 where
+  pub head : Head
+  pub entries : List Entry
+
+unfoldable pub layoutOf : Octets → Answer Layout
+layoutOf s = do
+  h ← headOf s
+  es ← parameters 64 s (h .set .start) (h .set .end)
+  accepted (record { head = h; entries = es })

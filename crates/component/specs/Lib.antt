@@ -1,0 +1,9 @@
+pub mod Layout
+pub mod Grammar
+pub mod Shown
+pub mod Listed
+pub mod Table
+pub mod Composed
+pub mod Composable
+pub mod Composing
+pub mod Told

@@ -1,0 +1,37 @@
+-- What each case of an answer says: its values, or the paper's number and detail.
+use Prim.Native.Nat.{ℕ}
+use Rattle.element.specs.Answer.{Answer, accepted, refused}
+use Rattle.component.specs.declared.Span as S
+use Rattle.component.specs.declared.Span.the-variants as SV
+use Rattle.component.specs.declared.Parameter as P
+use Rattle.component.specs.declared.Parameter.the-variants as PV
+use Rattle.component.specs.declared.Count as C
+use Rattle.component.specs.declared.Count.the-variants as CV
+use Rattle.component.specs.declared.Head as H
+use Rattle.component.specs.declared.Head.the-variants as HV
+use Rattle.component.specs.declared.Layout as Y
+use Rattle.component.specs.declared.Layout.the-variants as YV
+use Rattle.component.specs.declared.Heading as G
+use Rattle.component.specs.Layout.{Span, Entry}
+use Rattle.component.specs.Table.{Outline}
+
+abbrev pub spanIn : S.Span → Answer Span
+spanIn (SV.Found start end) = accepted (record { start = start; end = end })
+spanIn (SV.Refused n d) = refused n d
+
+-- a parameter that stands at `at`
+abbrev pub entryIn : (at : ℕ) → P.Parameter → Answer Entry
+entryIn at (PV.Found number form start size) = accepted (record { number = number; form = form; place = at; start = start; size = size })
+entryIn at (PV.Refused n d) = refused n d
+
+abbrev pub countIn : C.Count → Answer ℕ
+countIn (CV.Of n) = accepted n
+countIn (CV.Refused n d) = refused n d
+
+abbrev pub headingIn : H.Head → Answer G.Heading
+headingIn (HV.Found heading) = accepted heading
+headingIn (HV.Refused n d) = refused n d
+
+abbrev pub outlineIn : Y.Layout → Answer Outline
+outlineIn (YV.Accepted heading count) = accepted (record { heading = heading; count = count })
+outlineIn (YV.Refused n d) = refused n d

@@ -1,0 +1,7 @@
+pub mod Reading
+pub mod LengthLaws
+pub mod IdentifierLaws
+pub mod FieldLaws
+pub mod Outcomes
+pub mod Scanning
+pub mod Ways

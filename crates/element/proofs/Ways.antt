@@ -1,0 +1,139 @@
+-- Each way out of a definition that goes by tests, as one law: what the tests on the way say, and the outcome.
+-- Assumes nothing.
+use Prim.Native.Nat.{ℕ, _+_, _*_, _/_, _%_, _<_, _≤_}
+use mathlib.Core.Path.{_≡_, ap}
+use mathlib.Core.List.{[], _∷_}
+use lib.ListN.{length, getD}
+use borrow.Author.Tests.{le-leb, lt-leb, le-ltb, lt-ltb, ne-eqb}
+use native.Mathlib.Omega.{arith}
+use Rattle.element.specs.declared.Length.the-variants as LV
+use Rattle.element.specs.declared.Identifier.the-variants as IV
+use Rattle.element.specs.declared.Written as W
+use Rattle.element.specs.declared.Written.the-variants as WV
+use Rattle.element.specs.Octets.{Octets}
+use Rattle.element.specs.Field.{written, outputAfter}
+use Rattle.element.specs.Length.{shortest, lengthAt}
+use Rattle.element.specs.Identifier.{identifier, within, numbered, identifierAt, identifierWritten, identifierAfter}
+
+-- ---- the length field
+
+module _ (s : Octets) where
+  pub nothing-left : length s ≤ 0 → LV.Wrong ≡ lengthAt s
+  unfolding lengthAt
+  nothing-left h = simp (le-leb (length s) 0)
+
+  module _ (a : ℕ) (e : a ≡ getD s 0 0) (some : 0 < length s) where
+    pub one-octet : a < 128 → LV.Is a 1 ≡ lengthAt s
+    unfolding lengthAt
+    one-octet h = simp (lt-leb (length s) 0, ← e, lt-ltb a 128)
+
+    pub other-form : 128 ≤ a → (a ≡ 129 → ⊥) → (a ≡ 130 → ⊥) → LV.Wrong ≡ lengthAt s
+    unfolding lengthAt
+    other-form h n m = simp (lt-leb (length s) 0, ← e, le-ltb a 128, ne-eqb a 129, ne-eqb a 130)
+
+    module _ (is-81 : a ≡ 129) where
+      pub cut-81 : length s ≤ 1 → LV.Wrong ≡ lengthAt s
+      unfolding lengthAt
+      cut-81 h = simp (lt-leb (length s) 0, ← e, is-81, le-leb (length s) 1)
+
+      module _ (b : ℕ) (f : b ≡ getD s 1 0) (more : 1 < length s) where
+        pub long-81 : b < 128 → LV.Wrong ≡ lengthAt s
+        unfolding lengthAt
+        long-81 h = simp (lt-leb (length s) 0, ← e, is-81, lt-leb (length s) 1, ← f, lt-ltb b 128)
+
+        pub two-octets : 128 ≤ b → LV.Is b 2 ≡ lengthAt s
+        unfolding lengthAt
+        two-octets h = simp (lt-leb (length s) 0, ← e, is-81, lt-leb (length s) 1, ← f, le-ltb b 128)
+
+    module _ (is-82 : a ≡ 130) where
+      pub cut-82 : length s ≤ 2 → LV.Wrong ≡ lengthAt s
+      unfolding lengthAt
+      cut-82 h = simp (lt-leb (length s) 0, ← e, is-82, le-leb (length s) 2)
+
+      module _ (b : ℕ) (f : b ≡ getD s 1 0) (more : 2 < length s) where
+        pub long-82 : b < 1 → LV.Wrong ≡ lengthAt s
+        unfolding lengthAt
+        long-82 h = simp (lt-leb (length s) 0, ← e, is-82, lt-leb (length s) 2, ← f, lt-ltb b 1)
+
+        pub three-octets : (d : ℕ) → d ≡ getD s 2 0 → 1 ≤ b → LV.Is (b * 256 + d) 3 ≡ lengthAt s
+        unfolding lengthAt
+        three-octets d g h = simp (lt-leb (length s) 0, ← e, is-82, lt-leb (length s) 2, ← f, le-ltb b 1, ← g)
+
+module _ (n : ℕ) where
+  pub says-1 : n < 128 → shortest n ≡ (n % 256) ∷ []
+  unfolding shortest
+  says-1 h = simp (lt-ltb n 128) (ap (λ k. k ∷ []) (omega arith))
+
+  module _ (h : 128 ≤ n) where
+    pub says-2 : n < 256 → shortest n ≡ 129 ∷ (n % 256) ∷ []
+    unfolding shortest
+    says-2 k = simp (le-ltb n 128, lt-ltb n 256) (ap (λ k. 129 ∷ k ∷ []) (omega arith))
+
+    pub says-3 : 256 ≤ n → shortest n ≡ 130 ∷ (n / 256) ∷ (n % 256) ∷ []
+    unfolding shortest
+    says-3 k = simp (le-ltb n 128, le-ltb n 256)
+
+-- ---- the identifier
+
+module _ (number form at : ℕ) (out : Octets) where
+  pub no-number : 16383 < number → (WV.NoForm ≡ identifierWritten number form at out) × (out ≡ identifierAfter number form at out)
+  unfolding identifierWritten identifierAfter
+  no-number h = (simp (lt-leb number 16383), simp (lt-leb number 16383))
+
+  module _ (h : number ≤ 16383) where
+    pub no-form : 1 < form → (WV.NoForm ≡ identifierWritten number form at out) × (out ≡ identifierAfter number form at out)
+    unfolding identifierWritten identifierAfter
+    no-form k = (simp (le-leb number 16383, lt-leb form 1), simp (le-leb number 16383, lt-leb form 1))
+
+    pub has-form : form ≤ 1 → {field : Octets} → identifier number form ≡ field → {r : W.Written} {after : Octets} →
+        (r ≡ written field at out) × (after ≡ outputAfter field at out) →
+        (r ≡ identifierWritten number form at out) × (after ≡ identifierAfter number form at out)
+    unfolding identifierWritten identifierAfter
+    has-form k e p = simp (le-leb number 16383, le-leb form 1, e) p
+
+module _ (number form size : ℕ) where
+  pub too-small : number < 31 → IV.IllFormed ≡ within number form size
+  unfolding within
+  too-small h = simp (lt-ltb number 31)
+
+  module _ (h : 31 ≤ number) where
+    pub too-large : 16383 < number → IV.TooLarge ≡ within number form size
+    unfolding within
+    too-large k = simp (le-ltb number 31, lt-ltb 16383 number)
+
+    pub in-range : number ≤ 16383 → IV.Is number form size ≡ within number form size
+    unfolding within
+    in-range k = simp (le-ltb number 31, le-ltb 16383 number)
+
+module _ (s : Octets) where
+  pub no-octet : length s ≤ 0 → IV.IllFormed ≡ identifierAt s
+  unfolding identifierAt
+  no-octet h = simp (le-leb (length s) 0)
+
+  module _ (a : ℕ) (e : a ≡ getD s 0 0) (some : 0 < length s) where
+    pub other-class : (a / 64 ≡ 2 → ⊥) → IV.IllFormed ≡ identifierAt s
+    unfolding identifierAt
+    other-class n = simp (lt-leb (length s) 0, ← e, ne-eqb (a / 64) 2)
+
+    module _ (class : a / 64 ≡ 2) where
+      pub low-bits : a % 32 < 31 → IV.Is (a % 32) (a / 32 % 2) 1 ≡ identifierAt s
+      unfolding identifierAt
+      low-bits h = simp (lt-leb (length s) 0, ← e, class, lt-ltb (a % 32) 31)
+
+      pub all-ones : 31 ≤ a % 32 → numbered (a / 32 % 2) s ≡ identifierAt s
+      unfolding identifierAt
+      all-ones h = simp (lt-leb (length s) 0, ← e, class, le-ltb (a % 32) 31)
+
+module _ (number form : ℕ) where
+  pub numbers-1 : number < 31 → identifier number form ≡ (128 + 32 * form + number) ∷ []
+  unfolding identifier
+  numbers-1 h = simp (lt-ltb number 31)
+
+  module _ (h : 31 ≤ number) where
+    pub numbers-2 : number < 128 → identifier number form ≡ (159 + 32 * form) ∷ number ∷ []
+    unfolding identifier
+    numbers-2 k = simp (le-ltb number 31, lt-ltb number 128)
+
+    pub numbers-3 : 128 ≤ number → identifier number form ≡ (159 + 32 * form) ∷ (128 + number / 128) ∷ (number % 128) ∷ []
+    unfolding identifier
+    numbers-3 k = simp (le-ltb number 31, le-ltb number 128)

@@ -1,0 +1,41 @@
+-- `element::read_identifier` meets its contract: each way out is one law of `Ways`, and what follows is `scan`'s.
+-- Assumes nothing.
+use borrow.Author.Needs.{needs}
+use native.Mathlib.Omega.{arith}
+use mathlib.Core.Path.{_∙_}
+use Rattle.element.proofs.Ways.{no-octet, other-class, low-bits, all-ones}
+use Rattle.element.proofs.read_identifier.Statement.{statement}
+use Rattle.element.proofs.read_identifier.Tie as tie
+
+returns : tie.Need-returns
+returns c = no-octet _ (c .if1 .taken)
+
+shared-slice-read-double : tie.Need-shared-slice-read-double
+shared-slice-read-double c = search needs
+
+double-requires : tie.Need-double-requires
+double-requires c κs = search needs
+
+returns-2 : tie.Need-returns-2
+returns-2 c = low-bits _ _ (c .before .before .double .ensures .0) (omega arith) (c .before .if2 .taken) (c .if3 .taken)
+
+scan-requires : tie.Need-scan-requires
+scan-requires c κs = search needs
+
+returns-3 : tie.Need-returns-3
+returns-3 c = c .scan .ensures ∙ all-ones _ _ (c .before .before .before .double .ensures .0) (omega arith) (c .before .before .if2 .taken) (c .before .if3 .left)
+
+returns-4 : tie.Need-returns-4
+returns-4 c = other-class _ _ (c .before .double .ensures .0) (omega arith) (c .if2 .left)
+
+pub read-identifier-spec : {M : Type 1} → statement M
+read-identifier-spec =
+    tie.close
+    (tie.spec
+    returns
+    shared-slice-read-double
+    double-requires
+    returns-2
+    scan-requires
+    returns-3
+    returns-4)
