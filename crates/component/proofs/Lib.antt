@@ -11,3 +11,10 @@ pub mod Sound
 pub mod Complete
 pub mod Composes
 pub mod Decoding
+pub mod Putting
+pub mod Composition
+pub mod Sizing
+pub mod Counting
+pub mod Measuring
+pub mod Emission
+pub mod Outcome

@@ -6,4 +6,5 @@ pub mod Table
 pub mod Composed
 pub mod Composable
 pub mod Composing
+pub mod Emitting
 pub mod Told

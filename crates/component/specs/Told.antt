@@ -12,8 +12,11 @@ use Rattle.component.specs.declared.Head.the-variants as HV
 use Rattle.component.specs.declared.Layout as Y
 use Rattle.component.specs.declared.Layout.the-variants as YV
 use Rattle.component.specs.declared.Heading as G
+use Rattle.component.specs.declared.Measured as M
+use Rattle.component.specs.declared.Measured.the-variants as MV
 use Rattle.component.specs.Layout.{Span, Entry}
 use Rattle.component.specs.Table.{Outline}
+use Rattle.component.specs.Composing.{Sizes}
 
 abbrev pub spanIn : S.Span → Answer Span
 spanIn (SV.Found start end) = accepted (record { start = start; end = end })
@@ -35,3 +38,7 @@ headingIn (HV.Refused n d) = refused n d
 abbrev pub outlineIn : Y.Layout → Answer Outline
 outlineIn (YV.Accepted heading count) = accepted (record { heading = heading; count = count })
 outlineIn (YV.Refused n d) = refused n d
+
+abbrev pub measureIn : M.Measured → Answer Sizes
+measureIn (MV.Octets whole set) = accepted (record { whole = whole; set = set })
+measureIn (MV.Refused n d) = refused n d

@@ -11,7 +11,7 @@ use Rattle.element.specs.declared.Identifier as I
 use Rattle.element.specs.declared.Identifier.the-variants as IV
 use Rattle.element.specs.Octets.{Octets, AreOctets}
 use Rattle.element.specs.Identifier.{IdentifierField, only, identifier, identifierSize, identifierAt, numbered, within}
-use Rattle.element.proofs.Reading.{less, most, same, first, first-two, first-three, Small, small}
+use Rattle.element.proofs.Reading.{less, most, same, first, first-two, first-three, Small, small as each-small}
 
 -- an identifier by its size, and back
 by-size : (P : Octets → Type 0) (number form : ℕ) →
@@ -65,6 +65,12 @@ long {form} h s =
     let f : a / 32 % 2 ≡ form = omega arith in
     let g : a % 32 ≡ 31 = omega arith in
     simp (leb·suc-zero, e, f, g)
+
+pub small : (number : ℕ) {k : ℕ} → k ≡ identifierSize number → k ≤ 3
+unfolding identifierSize
+small number e =
+    rw e (less (λ k. k ≤ 3) {x = number} {y = 31} {a = 1} (λ _. omega arith) λ _.
+    less (λ k. k ≤ 3) {x = number} {y = 128} {a = 2} {b = 3} (λ _. omega arith) (λ _. omega arith))
 
 pub complete : {number form : ℕ} {field : Octets} → IdentifierField number form field → (rest : Octets) →
     identifierAt (field ++ rest) ≡ IV.Is number form (length field)
@@ -162,4 +168,4 @@ inside s o {size = size} e =
 
 pub octets : {number form : ℕ} {field : Octets} → IdentifierField number form field → AreOctets field
 octets (only number form h k) =
-    small (identifier number form) (by-size Small number form (λ a. omega arith) (λ _ a. omega arith) (λ _. omega arith))
+    each-small (identifier number form) (by-size Small number form (λ a. omega arith) (λ _ a. omega arith) (λ _. omega arith))

@@ -11,7 +11,7 @@ use Rattle.element.specs.declared.Length as L
 use Rattle.element.specs.declared.Length.the-variants as LV
 use Rattle.element.specs.Octets.{Octets, AreOctets}
 use Rattle.element.specs.Length.{LengthField, short, shortest, fieldSize, lengthAt}
-use Rattle.element.proofs.Reading.{less, most, same, first, first-two, first-three, Small, small}
+use Rattle.element.proofs.Reading.{less, most, same, first, first-two, first-three, Small, small as each-small}
 
 -- a field by its size, and back
 by-size : (P : Octets → Type 0) (n : ℕ) →
@@ -42,6 +42,13 @@ size n h =
     (λ a. simp (lt-ltb n 128))
     (λ a b. simp (le-ltb n 128, lt-ltb n 256))
     (λ a. simp (le-ltb n 128 (omega arith), le-ltb n 256, lt-ltb n 65536))
+
+pub small : (n : ℕ) {k : ℕ} → k ≡ fieldSize n → k ≤ 4
+unfolding fieldSize
+small n e =
+    rw e (less (λ k. k ≤ 4) {x = n} {y = 128} {a = 1} (λ _. omega arith) λ _.
+    less (λ k. k ≤ 4) {x = n} {y = 256} {a = 2} (λ _. omega arith) λ _.
+    less (λ k. k ≤ 4) {x = n} {y = 65536} {a = 3} {b = 4} (λ _. omega arith) (λ _. omega arith))
 
 pub complete : {n : ℕ} {field : Octets} → LengthField n field → (rest : Octets) → lengthAt (field ++ rest) ≡ LV.Is n (length field)
 unfolding lengthAt
@@ -97,7 +104,7 @@ inside s o {size = size} e =
     (l .0, l .1, h, bounded f)
 
 pub octets : {n : ℕ} {field : Octets} → LengthField n field → AreOctets field
-octets (short n h) = small (shortest n) (by-size Small n (λ a. omega arith) (λ _ a. omega arith) (λ _. omega arith))
+octets (short n h) = each-small (shortest n) (by-size Small n (λ a. omega arith) (λ _ a. omega arith) (λ _. omega arith))
 
 pub unique : {n : ℕ} {f g : Octets} → LengthField n f → LengthField n g → f ≡ g
 unique (short n h) (short m k) = refl

@@ -1,0 +1,124 @@
+-- What is composed once the sizes are known: the outcome, and the octets that are put down.
+use Prim.Native.Nat.{ℕ, _+_, _*_, _<_, _≤_}
+use mathlib.Core.Path.{_≡_, refl, sym, ap, _∙_}
+use mathlib.Core.Bool.{Bool, true, false}
+use mathlib.Core.List.{List, _++_}
+use lib.ListN.{length, length-append}
+use lib.Dec.{leb, eqb}
+use borrow.Author.Tests.{le-leb, lt-leb, leb-true, eqb-true}
+use native.Mathlib.Omega.{arith}
+use native.Mathlib.Nat.{zero-add}
+use Rattle.element.specs.Octets.{Octets, if}
+use Rattle.element.specs.Answer.{Answer, accepted, refused, _>>=_}
+use Rattle.element.specs.Field.{put}
+use Rattle.component.specs.declared.Id as D
+use Rattle.component.specs.Composed.{setOf, composed}
+use Rattle.component.specs.Composing.{
+  setSize,
+  bodySize,
+  octetsNeeded,
+  idFits,
+  componentOf,
+  entriesOf,
+  Sizes,
+  measured,
+  octetsOf,
+  composing,
+  written,
+  outputAfter,
+}
+use Rattle.component.specs.Emitting.{Put, headOctets, AllStand, entries}
+use Rattle.component.proofs.Putting.{then}
+use Rattle.component.proofs.Composition as composition
+use Rattle.component.proofs.Measuring.{sizesOf, Ready, ready, gave}
+use Rattle.component.proofs.Emission.{listed, stand}
+
+small : (t : Bool) (count : ℕ) → if t (leb count 2) (eqb count 1) ≡ true → count ≤ 2
+small true count e = leb-true count 2 e
+small false count e = omega (arith, eqb-true count 1 e)
+
+stopped : {A B C : Type 0} (a : Answer A) (f : A → B) (g : A → Answer C) {n d : ℕ} → (a >>= λ x. accepted (f x)) ≡ refused n d → (a >>= g) ≡ refused n d
+stopped (accepted x) f g e = let z : _≡_ {A = ℕ} 0 1 = cc in absurd (omega arith)
+stopped (refused n d) f g e = cc
+
+abbrev Outcome : (a : Answer Octets) (out : Octets) (told : Answer ℕ) (after : Octets) → Type 0
+Outcome a out told after = (told ≡ written a) × (after ≡ outputAfter out a)
+
+unchanged : {a : Answer Octets} (out : Octets) {n d : ℕ} → a ≡ refused n d → Outcome a out (refused n d) out
+unfolding written outputAfter
+unchanged out e = rw e (refl, refl)
+
+changed : {a : Answer Octets} {s out : Octets} {last : ℕ} {after : Octets} → Put s 0 out last after → a ≡ accepted s →
+    Outcome a out (accepted last) after
+unfolding written outputAfter put
+changed {s = s} {out = out} p e = rw e (ap accepted (p .place ∙ zero-add (length s)), p .octets ∙ rw zero-add refl)
+
+module _ (kind : ℕ) (id : D.Id) (count : ℕ) (t : List ℕ) (source : Octets) where
+  -- what the sizes say of the entries
+  pub record Found (whole set : ℕ) : Type 0 where
+    pub is : entriesOf kind id count t source ≡ accepted (entries 0 count t source)
+    pub ready : Ready kind id count t source (entries 0 count t source)
+    pub whole-is : whole ≡ octetsNeeded kind (id .count) (entries 0 count t source)
+    pub set-is : set ≡ setSize (entries 0 count t source)
+
+  pub found : {whole set : ℕ} → accepted (record { whole = whole; set = set }) ≡ measured kind id count t source → Found whole set
+  unfolding measured
+  found {whole} {set} e =
+      let (ps, x, y) = gave (entriesOf kind id count t source) (λ ps. accepted (sizesOf kind (id .count) ps)) (sym e) in
+      let r = ready kind id count t source x in
+      let l = listed t source 0 count (r .entries) in
+      let z : sizesOf kind (id .count) ps ≡ record { whole = whole; set = set } = cc in
+      record {
+        is = rw (← l) x;
+        ready = rw (← l) r;
+        whole-is = rw (← l) (sym (ap (λ (s : Sizes). s .whole) z));
+        set-is = rw (← l) (sym (ap (λ (s : Sizes). s .set) z));
+      }
+
+  pub refusal : (specifier : ℕ) (out : Octets) {n d : ℕ} → refused n d ≡ measured kind id count t source →
+      Outcome (composing kind id specifier count t source (length out)) out (refused n d) out
+  unfolding measured composing
+  refusal specifier out e =
+      unchanged out (stopped (entriesOf kind id count t source) (sizesOf kind (id .count)) (λ ps. octetsOf kind id specifier ps (length out)) (sym e))
+
+  module _ {whole set : ℕ} (f : Found whole set) where
+    few : id .count ≤ 2
+    unfolding idFits
+    few = small (eqb kind 0xE9) (id .count) (f .ready .fit)
+
+    pub short : whole ≤ 4096
+    short = rw (f .whole-is) (f .ready .short)
+
+    pub short-set : set ≤ 4096
+    short-set = rw (f .set-is) (composition.short-set kind (id .count) (entries 0 count t source) (f .ready .short))
+
+    module _ (specifier : ℕ) (out : Octets) where
+      pub no-room : length out < whole → Outcome (composing kind id specifier count t source (length out)) out (refused 17 whole) out
+      unfolding composing octetsOf
+      no-room h = unchanged out (simp (f .is, ← f .whole-is, lt-leb whole (length out) h))
+
+      module _ {body : ℕ} (b : body ≡ bodySize kind (id .count) set) where
+        octets : composed (componentOf kind id specifier (entries 0 count t source))
+            ≡ headOctets kind id specifier body set ++ setOf (entries 0 count t source)
+        octets = rw (b, f .set-is) (composition.parts kind id specifier (entries 0 count t source) (f .ready .known) few (f .ready .short))
+
+        lengths : length (headOctets kind id specifier body set) + length (setOf (entries 0 count t source)) ≡ whole
+        lengths =
+            sym (length-append (headOctets kind id specifier body set) (setOf (entries 0 count t source))) ∙ ap length (sym octets)
+            ∙ composition.whole kind id specifier (entries 0 count t source) (f .ready .known) few (f .ready .short) ∙ sym (f .whole-is)
+
+        module _ (h : whole ≤ length out) where
+          pub head-ready : (id .count ≤ 2) × (body < 65536) × (set < 65536) × (length (headOctets kind id specifier body set) ≤ length out)
+          head-ready =
+              let s : bodySize kind (id .count) set ≤ 4096 = rw (f .set-is) (composition.short-body kind (id .count) (entries 0 count t source) (f .ready .short)) in
+              (few, omega arith, omega (arith, short-set), omega (arith, lengths))
+
+          module _ {next : ℕ} {mid : Octets} (p : Put (headOctets kind id specifier body set) 0 out next mid) where
+            pub set-ready : length mid ≡ length out → (count ≤ 64) × (4 * count ≤ length t) × AllStand count t source
+                × (next + length (setOf (entries 0 count t source)) ≤ length mid)
+            set-ready e = (f .ready .few, f .ready .room, stand t source count (f .ready .entries), omega (arith, lengths, p .place))
+
+            pub all-put : {last : ℕ} {after : Octets} → Put (setOf (entries 0 count t source)) next mid last after →
+                Outcome (composing kind id specifier count t source (length out)) out (accepted last) after
+            unfolding composing octetsOf
+            all-put q = changed (rw (← octets) at (then p q (omega arith))) (simp (f .is, ← f .whole-is, le-leb whole (length out) h))

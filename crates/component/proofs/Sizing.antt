@@ -1,0 +1,39 @@
+-- The octets counted: what each step of the definition says, where the tests on the way hold.
+use Prim.Native.Nat.{ℕ, _+_, _*_, _<_, _≤_}
+use mathlib.Core.Path.{_≡_, refl}
+use mathlib.Core.Bool.{false}
+use mathlib.Core.List.{List}
+use lib.ListN.{length, getD}
+use borrow.Author.Tests.{le-leb, lt-leb, eq-eqb, ne-eqb}
+use native.Mathlib.Omega.{arith}
+use Rattle.element.specs.Octets.{Octets}
+use Rattle.element.specs.Length.{fieldSize}
+use Rattle.component.specs.Table.{fits}
+use Rattle.component.specs.Composing.{elementSize, bodySize, entryStands}
+
+pub element-size : (head body : ℕ) → head + fieldSize body + body ≡ elementSize head body
+unfolding elementSize
+element-size head body = refl
+
+module _ (kind id set : ℕ) where
+  pub with-operation : kind ≡ 0xE9 → elementSize 1 id + elementSize 1 set + 4 ≡ bodySize kind id set
+  unfolding bodySize
+  with-operation h = simp (eq-eqb kind 0xE9) (omega arith)
+
+  pub without : (kind ≡ 0xE9 → ⊥) → elementSize 1 id + elementSize 1 set ≡ bodySize kind id set
+  unfolding bodySize
+  without h = simp (ne-eqb kind 0xE9) (omega arith)
+
+module _ (t : List ℕ) (source : Octets) (i : ℕ) where
+  pub no-number : 16383 < getD t (4 * i) 0 → false ≡ entryStands t source i
+  unfolding entryStands
+  no-number h = simp (lt-leb (getD t (4 * i) 0) 16383)
+
+  module _ (h : getD t (4 * i) 0 ≤ 16383) where
+    pub no-form : 1 < getD t (4 * i + 1) 0 → false ≡ entryStands t source i
+    unfolding entryStands
+    no-form k = simp (le-leb (getD t (4 * i) 0) 16383, lt-leb (getD t (4 * i + 1) 0) 1)
+
+    pub by-place : getD t (4 * i + 1) 0 ≤ 1 → fits source (getD t (4 * i + 2) 0) (getD t (4 * i + 3) 0) ≡ entryStands t source i
+    unfolding entryStands
+    by-place k = simp (le-leb (getD t (4 * i) 0) 16383, le-leb (getD t (4 * i + 1) 0) 1)

@@ -1,0 +1,65 @@
+use Prim.Native.Nat.{_-_, _≤_}
+use mathlib.Core.Path.{_≡_}
+use lib.ListN.{length, length-set}
+use borrow.Author.Needs.{needs}
+use native.Mathlib.Omega.{arith}
+use Rattle.component.proofs.Putting.{copied, none-copied, more-copied, all-copied}
+use Rattle.component.proofs.composing.copy_octets.Statement.{statement}
+use Rattle.component.proofs.composing.copy_octets.Tie as tie
+
+abbrev Inv-octets : tie.InvT-octets
+Inv-octets source start size out₀ at i₀ out i = (i ≤ size) × (length out ≡ length out₀) × (out ≡ copied source start at out₀ i)
+
+abbrev μ-octets : tie.MeasureT-octets
+μ-octets source start size out₀ at i₀ out i = size - i
+
+octets-holds : tie.Need-octets-holds Inv-octets μ-octets
+octets-holds c = (search needs, search needs, none-copied _ _ _ _)
+
+add-out : tie.Need-add-out Inv-octets μ-octets
+add-out c = search needs
+
+shared-slice-read-out : tie.Need-shared-slice-read-out Inv-octets μ-octets
+shared-slice-read-out c = search needs
+
+add-out-2 : tie.Need-add-out-2 Inv-octets μ-octets
+add-out-2 c = search needs
+
+slice-write-out : tie.Need-slice-write-out Inv-octets μ-octets
+slice-write-out c = search needs
+
+add-i : tie.Need-add-i Inv-octets μ-octets
+add-i c = search needs
+
+octets-less : tie.Need-octets-less Inv-octets μ-octets
+octets-less c = search needs
+
+octets-again : tie.Need-octets-again Inv-octets μ-octets
+octets-again c = (search needs, simp length-set (omega arith), more-copied _ _ _ _ _ (omega arith) (omega arith) (c .before .before .octets .inv .2))
+
+add-result : tie.Need-add-result Inv-octets μ-octets
+add-result c = search needs
+
+same-length : tie.Need-same-length Inv-octets μ-octets
+same-length c = search needs
+
+returns : tie.Need-returns Inv-octets μ-octets
+returns c = let e : c .before .octets .i ≡ c .before .before .args .size = omega arith in all-copied _ _ _ _ _ (omega arith) (rw e at (c .before .octets .inv .2))
+
+pub copy-octets-spec : {M : Type 1} → statement M
+copy-octets-spec =
+    tie.close
+    (tie.spec
+    Inv-octets
+    μ-octets
+    octets-holds
+    add-out
+    shared-slice-read-out
+    add-out-2
+    slice-write-out
+    add-i
+    octets-less
+    octets-again
+    add-result
+    same-length
+    returns)

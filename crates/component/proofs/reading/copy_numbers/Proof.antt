@@ -1,0 +1,89 @@
+-- `component::copy_numbers` meets its contract. The invariant: the first `i` numbers are copied, and those behind them are as they were.
+-- Assumes nothing.
+use Prim.Native.Nat.{ℕ, _+_, _-_, _<_, _≤_}
+use mathlib.Core.Path.{_≡_, refl, sym, _∙_}
+use mathlib.Core.List.{List, _++_}
+use lib.ListN.{length, getD, take, drop, set, length-set, length-append, length-take, length-drop}
+use lib.Seq.{take-suc, drop-cons, set-at, append-snoc, length-take-le}
+use native.Mathlib.Omega.{arith}
+use native.Mathlib.Numerals.{add-one}
+use borrow.Author.Needs.{needs}
+use borrow.Author.Tests.{le-leb, lt-leb}
+use Rattle.component.specs.Table.{copied}
+use Rattle.component.proofs.reading.copy_numbers.Statement.{statement}
+use Rattle.component.proofs.reading.copy_numbers.Tie as tie
+
+one-more : (from to : List ℕ) (i : ℕ) → i < length from → i < length to → set (take i from ++ drop i to) i (getD from i 0) ≡ take (i + 1) from ++ drop (i + 1) to
+one-more from to i h k =
+    rw (add-one, take-suc from i 0, drop-cons to i 0)
+    (set-at (take i from) (getD to i 0) _ (getD from i 0) i (length-take-le i from (omega arith)) ∙ sym (append-snoc (take i from) (getD from i 0) _))
+
+abbrev Inv-loop : tie.InvT-loop
+Inv-loop from to₀ count i₀ to i = (i ≤ count) × (length to ≡ length to₀) × (to ≡ take i from ++ drop i to₀)
+
+abbrev μ-loop : tie.MeasureT-loop
+μ-loop from to₀ count i₀ to i = count - i
+
+returns : tie.Need-returns Inv-loop μ-loop
+unfolding copied
+returns c = simp (lt-leb _ _ (c .if1 .taken))
+
+returns-2 : tie.Need-returns-2 Inv-loop μ-loop
+unfolding copied
+returns-2 c = simp (le-leb _ _ (c .before .if1 .left), lt-leb _ _ (c .if2 .taken))
+
+loop-holds : tie.Need-loop-holds Inv-loop μ-loop
+loop-holds c = (search needs, search needs, refl)
+
+mul-to : tie.Need-mul-to Inv-loop μ-loop
+mul-to c = search needs
+
+shared-slice-read-to : tie.Need-shared-slice-read-to Inv-loop μ-loop
+shared-slice-read-to c = search needs
+
+mul-to-2 : tie.Need-mul-to-2 Inv-loop μ-loop
+mul-to-2 c = search needs
+
+slice-write-to : tie.Need-slice-write-to Inv-loop μ-loop
+slice-write-to c = search needs
+
+add-i : tie.Need-add-i Inv-loop μ-loop
+add-i c = search needs
+
+loop-less : tie.Need-loop-less Inv-loop μ-loop
+loop-less c = search needs
+
+loop-again : tie.Need-loop-again Inv-loop μ-loop
+loop-again c =
+    let l = c .before .before .loop in
+    (search needs, length-set (l .to) _ _ ∙ l .inv .1, rw (l .inv .2) (one-more _ _ (l .i) (omega arith) (omega arith)))
+
+same-length : tie.Need-same-length Inv-loop μ-loop
+same-length c = search needs
+
+returns-3 : tie.Need-returns-3 Inv-loop μ-loop
+unfolding copied
+returns-3 c =
+    let a = c .before .before .before .before .args in
+    let l = c .before .loop in
+    let e : l .i ≡ a .count = omega arith in
+    l .inv .2 ∙ rw e (simp (le-leb (a .count) (length (a .from .now)) (omega arith), le-leb (a .count) (length (a .to .now)) (omega arith)))
+
+pub copy-numbers-spec : {M : Type 1} → statement M
+copy-numbers-spec =
+    tie.close
+    (tie.spec
+    Inv-loop
+    μ-loop
+    returns
+    returns-2
+    loop-holds
+    mul-to
+    shared-slice-read-to
+    mul-to-2
+    slice-write-to
+    add-i
+    loop-less
+    loop-again
+    same-length
+    returns-3)

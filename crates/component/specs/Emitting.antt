@@ -1,0 +1,59 @@
+-- What the private functions of the composing part say: the octets that each puts down, and the octets that each counts.
+use Prim.Native.Nat.{ℕ, zero, suc, _+_, _<_, _≤_}
+use mathlib.Core.Path.{_≡_}
+use mathlib.Core.Bool.{true}
+use mathlib.Core.List.{List, [], _∷_, _++_}
+use lib.ListN.{length}
+use lib.Dec.{leb, eqb}
+use Rattle.element.specs.declared.Written as W
+use Rattle.element.specs.declared.Written.the-variants as WV
+use Rattle.element.specs.Octets.{Octets, if}
+use Rattle.element.specs.Answer.{Answer, accepted, _>>=_, _>>_, check}
+use Rattle.element.specs.Field.{put}
+use Rattle.element.specs.Length.{shortest}
+use Rattle.component.specs.declared.Id as D
+use Rattle.component.specs.declared.Count as C
+use Rattle.component.specs.declared.Count.the-variants as CV
+use Rattle.component.specs.Grammar.{Parameter}
+use Rattle.component.specs.Composed.{element}
+use Rattle.component.specs.Composing.{entryOf, entryStands, elementSize, setSize, bodySize, idOctets, Sizes}
+
+-- ---- octets put down at a place of the output, and the place behind them
+pub record Put (field : Octets) (at : ℕ) (out : Octets) (next : ℕ) (after : Octets) : Type 0 where
+  pub place : next ≡ at + length field
+  pub octets : after ≡ put field at out
+
+abbrev pub sizeIn : W.Written → ℕ
+sizeIn (WV.Size n) = n
+sizeIn WV.NoRoom = 0
+sizeIn WV.NoForm = 0
+
+unfoldable pub operationOctets : (kind specifier : ℕ) → Octets
+operationOctets kind specifier = if (eqb kind 0xE9) (0xD1 ∷ 2 ∷ 9 ∷ specifier ∷ []) []
+
+-- all that stands before the parameters, where the contents of E9 or EA take `body` octets and the parameters `set`
+unfoldable pub headOctets : (kind : ℕ) (id : D.Id) (specifier body set : ℕ) → Octets
+headOctets kind id specifier body set =
+    (kind ∷ []) ++ shortest body ++ element (0xCF ∷ []) (idOctets id) ++ operationOctets kind specifier ++ (0xF2 ∷ []) ++ shortest set
+
+-- ---- the entries of a table, where all of them stand
+abbrev pub AllStand : (count : ℕ) (table : List ℕ) (source : Octets) → Type 0
+AllStand count t source = (i : ℕ) → i < count → entryStands t source i ≡ true
+
+unfoldable pub entries : (i count : ℕ) (table : List ℕ) (source : Octets) → List Parameter
+entries i zero t source = []
+entries i (suc n) t source = entryOf t source i ∷ entries (i + 1) n t source
+
+-- ---- how many octets they take
+unfoldable pub sized : Answer (List Parameter) → Answer ℕ
+sized a = a >>= λ ps. accepted (setSize ps)
+
+-- what is measured, where they take `set`
+unfoldable pub measuredOf : (kind id set : ℕ) → Answer Sizes
+measuredOf kind id set = do
+  check (leb (elementSize 1 (bodySize kind id set)) 4096) 15 (elementSize 1 (bodySize kind id set))
+  accepted (record { whole = elementSize 1 (bodySize kind id set); set = set })
+
+abbrev pub atMost : ℕ → C.Count → Type 0
+atMost n (CV.Of m) = m ≤ n
+atMost n (CV.Refused number detail) = Unit {0}

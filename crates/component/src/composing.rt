@@ -1,0 +1,336 @@
+// The octets of a component, counted and composed.
+use super::Count;
+use super::Id;
+use super::Measured;
+use super::part_fits;
+use element::Written;
+ghost use mathlib.Core.Path.{_≡_};
+ghost use mathlib.Core.List.{List, [], _∷_, _++_};
+ghost use Prim.Native.Nat.{ℕ, _+_, _*_, _≤_, _<_};
+ghost use lib.ListN.{length, take, drop};
+ghost use Rattle.element.specs.Length.{shortest};
+ghost use Rattle.element.specs.Identifier.{identifier};
+ghost use Rattle.component.specs.Table.{fits};
+ghost use Rattle.component.specs.Composed.{element, setOf};
+ghost use Rattle.component.specs.Composing.{
+  elementSize,
+  bodySize,
+  idFits,
+  idOctets,
+  entryStands,
+  entriesFrom,
+  measured,
+  composing,
+  written,
+  outputAfter,
+};
+ghost use Rattle.component.specs.Emitting.{
+  Put,
+  sizeIn,
+  operationOctets,
+  headOctets,
+  AllStand,
+  entries,
+  sized,
+  measuredOf,
+  atMost,
+};
+ghost use Rattle.component.specs.Told.{countIn, measureIn};
+
+// The octets that a component would take: the writer's refusals that need neither a row nor the output.
+pub fn measure(kind: u8, id: Id, count: usize, table: &[u16], source: &[u8]) -> Measured
+    ensures { λ r. ⌜ measureIn r ≡ measured kind id count (now (table .entry)) (now (source .entry)) ⌝ }
+{
+    if kind != 0xE9 {
+        if kind != 0xEA {
+            return Measured::Refused {
+                number: 3,
+                detail: 0,
+            };
+        }
+    }
+    let octets = id.count;
+    if id_fits(kind, octets) {
+        if 64 < count {
+            return Measured::Refused {
+                number: 10,
+                detail: 0,
+            };
+        }
+        if table.len() < 4 * count {
+            return Measured::Refused {
+                number: 1,
+                detail: 0,
+            };
+        }
+        match set_size(count, table, source) {
+            Count::Of(set) => {
+                return whole_size(kind, octets, set);
+            }
+            Count::Refused { number, detail } => {
+                return Measured::Refused { number, detail };
+            }
+        }
+    }
+    Measured::Refused {
+        number: 6,
+        detail: 0,
+    }
+}
+
+// ---- how many octets
+
+fn wide(x: u16) -> usize
+    ensures { λ r. ⌜ (r ≡ x) × (r < 65536) ⌝ }
+{
+    x as usize
+}
+
+// Whether a component of this kind can have an ID of so many octets.
+fn id_fits(kind: u8, count: u8) -> bool
+    ensures { λ r. ⌜ r ≡ idFits kind count ⌝ }
+{
+    if kind == 0xE9 {
+        return count <= 2;
+    }
+    count == 1
+}
+
+// An element: its identifier, its length field and its contents.
+fn element_size(head: usize, body: usize) -> usize
+    requires { ⌜ (head ≤ 3) × (body ≤ 5000000) ⌝ }
+    ensures { λ r. ⌜ (r ≡ elementSize head body) × (r ≤ head + body + 4) ⌝ }
+{
+    head + element::length_size(body) + body
+}
+
+// The contents of E9 or EA.
+fn body_size(kind: u8, octets: u8, set: usize) -> usize
+    requires { ⌜ set ≤ 4194688 ⌝ }
+    ensures { λ r. ⌜ (r ≡ bodySize kind octets set) × (r ≤ 4200000) ⌝ }
+{
+    let elements = element_size(1, octets as usize) + element_size(1, set);
+    if kind == 0xE9 {
+        return elements + 4;
+    }
+    elements
+}
+
+// The whole component, where its parameters take `set` octets: 15 where it is longer than 4,096.
+fn whole_size(kind: u8, octets: u8, set: usize) -> Measured
+    requires { ⌜ set ≤ 4194688 ⌝ }
+    ensures { λ r. ⌜ measureIn r ≡ measuredOf kind octets set ⌝ }
+{
+    let whole = element_size(1, body_size(kind, octets, set));
+    if 4096 < whole {
+        return Measured::Refused {
+            number: 15,
+            detail: whole as u32,
+        };
+    }
+    Measured::Octets { whole, set }
+}
+
+// Whether an entry is one of a parameter whose contents stand in the source.
+fn entry_stands(i: usize, table: &[u16], source: &[u8]) -> bool
+    requires { ⌜ (i < 64) × (4 * i + 3 < length (now table)) ⌝ }
+    ensures { λ r. ⌜ r ≡ entryStands (now (table .entry)) (now (source .entry)) i ⌝ }
+{
+    if 16383 < table[4 * i] {
+        return false;
+    }
+    if 1 < table[4 * i + 1] {
+        return false;
+    }
+    part_fits(source, wide(table[4 * i + 2]), wide(table[4 * i + 3]))
+}
+
+// The parameters: 16 at the first entry that does not stand.
+fn set_size(count: usize, table: &[u16], source: &[u8]) -> Count
+    requires { ⌜ (count ≤ 64) × (4 * count ≤ length (now table)) ⌝ }
+    ensures { λ r. ⌜ (countIn r ≡ sized (entriesFrom 0 count (now (table .entry)) (now (source .entry))))
+        × atMost 4194688 r ⌝ }
+{
+    let mut i: usize = 0;
+    let mut sum: usize = 0;
+    let answer = 'entries: loop {
+        if count <= i {
+            break 'entries Count::Of(sum);
+        }
+        if entry_stands(i, table, source) {
+            let head = element::identifier_size(table[4 * i]);
+            sum = sum + element_size(head, wide(table[4 * i + 3]));
+            i = i + 1;
+        } else {
+            break 'entries Count::Refused {
+                number: 16,
+                detail: i as u32,
+            };
+        }
+    };
+    answer
+}
+
+// ---- the octets, each at a place of the output: the answer is the place behind them
+
+// The place behind a field that was written.
+fn past(field: Written, at: usize) -> usize
+    requires { ⌜ at + sizeIn field < 18446744073709551616 ⌝ }
+    ensures { λ r. ⌜ r ≡ at + sizeIn field ⌝ }
+{
+    match field {
+        Written::Size(size) => at + size,
+        Written::NoRoom => at,
+        Written::NoForm => at,
+    }
+}
+
+fn put_length(out: &mut [u8], at: usize, value: usize) -> usize
+    requires { ⌜ (value < 65536) × (at + length (shortest value) ≤ length (now out)) ⌝ }
+    ensures { λ r. ⌜ Put (shortest value) at (now (out .entry)) r (now (out .exit)) ⌝ }
+{
+    past(element::write_length(value as u16, out, at), at)
+}
+
+fn put_identifier(out: &mut [u8], at: usize, number: u16, form: u16) -> usize
+    requires { ⌜ (number ≤ 16383) × (form ≤ 1) × (at + length (identifier number form) ≤ length (now out)) ⌝ }
+    ensures { λ r. ⌜ Put (identifier number form) at (now (out .entry)) r (now (out .exit)) ⌝ }
+{
+    past(element::write_identifier(number, form, out, at), at)
+}
+
+fn copy_octets(source: &[u8], start: usize, size: usize, out: &mut [u8], at: usize) -> usize
+    requires { ⌜ (start + size ≤ length (now source)) × (at + size ≤ length (now out)) ⌝ }
+    ensures { λ r. ⌜ Put (take size (drop start (now (source .entry)))) at (now (out .entry)) r (now (out .exit)) ⌝ }
+{
+    let mut i: usize = 0;
+    'octets: while i < size {
+        out[at + i] = source[start + i];
+        i = i + 1;
+    }
+    at + size
+}
+
+// CF, and the octets of the component ID.
+fn put_id(out: &mut [u8], at: usize, id: Id) -> usize
+    requires { ⌜ (id .count ≤ 2) × (at + length (element (0xCF ∷ []) (idOctets id)) ≤ length (now out)) ⌝ }
+    ensures { λ r. ⌜ Put (element (0xCF ∷ []) (idOctets id)) at (now (out .entry)) r (now (out .exit)) ⌝ }
+{
+    let count = id.count;
+    out[at] = 0xCF;
+    out[at + 1] = count;
+    if count == 0 {
+        return at + 2;
+    }
+    out[at + 2] = id.first;
+    if count == 1 {
+        return at + 3;
+    }
+    out[at + 3] = id.second;
+    at + 4
+}
+
+// D1 and the operation code of an INVOKE; a RESULT has none.
+fn put_operation(out: &mut [u8], at: usize, kind: u8, specifier: u8) -> usize
+    requires { ⌜ at + length (operationOctets kind specifier) ≤ length (now out) ⌝ }
+    ensures { λ r. ⌜ Put (operationOctets kind specifier) at (now (out .entry)) r (now (out .exit)) ⌝ }
+{
+    if kind == 0xE9 {
+        out[at] = 0xD1;
+        out[at + 1] = 2;
+        out[at + 2] = 9;
+        out[at + 3] = specifier;
+        return at + 4;
+    }
+    at
+}
+
+// All that stands before the parameters: the contents of E9 or EA take `body` octets, and the parameters `set`.
+fn put_head(kind: u8, id: Id, specifier: u8, body: usize, set: usize, out: &mut [u8]) -> usize
+    requires { ⌜ (id .count ≤ 2) × (body < 65536) × (set < 65536)
+        × (length (headOctets kind id specifier body set) ≤ length (now out)) ⌝ }
+    ensures { λ r. ⌜ Put (headOctets kind id specifier body set) 0 (now (out .entry)) r (now (out .exit)) ⌝ }
+{
+    out[0] = kind;
+    let component = put_length(out, 1, body);
+    let operation = put_id(out, component, id);
+    let parameters = put_operation(out, operation, kind, specifier);
+    out[parameters] = 0xF2;
+    put_length(out, parameters + 1, set)
+}
+
+fn put_parameter(
+    number: u16,
+    form: u16,
+    start: usize,
+    size: usize,
+    source: &[u8],
+    out: &mut [u8],
+    at: usize,
+) -> usize
+    requires { ⌜ (number ≤ 16383) × (form ≤ 1) × (start + size ≤ length (now source)) × (size < 65536)
+        × (at + length (element (identifier number form) (take size (drop start (now source)))) ≤ length (now out)) ⌝ }
+    ensures { λ r. ⌜ Put (element (identifier number form) (take size (drop start (now (source .entry))))) at
+        (now (out .entry)) r (now (out .exit)) ⌝ }
+{
+    let field = put_identifier(out, at, number, form);
+    let contents = put_length(out, field, size);
+    copy_octets(source, start, size, out, contents)
+}
+
+fn put_parameters(count: usize, table: &[u16], source: &[u8], out: &mut [u8], at: usize) -> usize
+    requires { ⌜ (count ≤ 64) × (4 * count ≤ length (now table)) × AllStand count (now table) (now source)
+        × (at + length (setOf (entries 0 count (now table) (now source))) ≤ length (now out)) ⌝ }
+    ensures { λ r. ⌜ Put (setOf (entries 0 count (now (table .entry)) (now (source .entry)))) at
+        (now (out .entry)) r (now (out .exit)) ⌝ }
+{
+    let mut i: usize = 0;
+    let mut next = at;
+    'entries: while i < count {
+        let start = wide(table[4 * i + 2]);
+        let size = wide(table[4 * i + 3]);
+        next = put_parameter(
+            table[4 * i],
+            table[4 * i + 1],
+            start,
+            size,
+            source,
+            out,
+            next,
+        );
+        i = i + 1;
+    }
+    next
+}
+
+// The component into a lent output: what `measure` refuses, then 17; only the octets that are counted change.
+pub fn compose(
+    kind: u8,
+    id: Id,
+    specifier: u8,
+    count: usize,
+    table: &[u16],
+    source: &[u8],
+    out: &mut [u8],
+) -> Count
+    ensures { λ r. ⌜ (countIn r ≡ written (composing kind id specifier count (now (table .entry)) (now (source .entry)) (length (now (out .entry)))))
+        × (now (out .exit) ≡ outputAfter (now (out .entry)) (composing kind id specifier count (now (table .entry)) (now (source .entry)) (length (now (out .entry))))) ⌝ }
+{
+    match measure(kind, id, count, table, source) {
+        Measured::Octets { whole, set } => {
+            if out.len() < whole {
+                return Count::Refused {
+                    number: 17,
+                    detail: whole as u32,
+                };
+            }
+            let octets = id.count;
+            let body = body_size(kind, octets, set);
+            let parameters = put_head(kind, id, specifier, body, set, out);
+            return Count::Of(put_parameters(count, table, source, out, parameters));
+        }
+        Measured::Refused { number, detail } => {
+            return Count::Refused { number, detail };
+        }
+    }
+}
