@@ -18,3 +18,5 @@ pub mod Counting
 pub mod Measuring
 pub mod Emission
 pub mod Outcome
+pub mod Asking
+pub mod Specifier

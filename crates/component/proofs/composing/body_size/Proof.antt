@@ -1,3 +1,5 @@
+-- `component::body_size` meets its contract.
+-- Assumes nothing.
 use borrow.Author.Needs.{needs}
 use native.Mathlib.Omega.{arith}
 use Rattle.component.proofs.Sizing.{with-operation, without}

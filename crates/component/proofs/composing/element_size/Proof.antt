@@ -1,3 +1,5 @@
+-- `component::element_size` meets its contract.
+-- Assumes nothing.
 use borrow.Author.Needs.{needs}
 use Rattle.element.proofs.LengthLaws as Length
 use Rattle.component.proofs.Sizing.{element-size}

@@ -1,3 +1,5 @@
+-- `component::entry_stands` meets its contract.
+-- Assumes nothing.
 use borrow.Author.Needs.{needs}
 use Rattle.component.proofs.Sizing.{no-number, no-form, by-place}
 use mathlib.Core.Path.{_∙_}

@@ -1,3 +1,5 @@
+-- `component::id_fits` meets its contract.
+-- Assumes nothing.
 use borrow.Author.Tests.{eq-eqb, ne-eqb}
 use Rattle.component.specs.Composing.{idFits}
 use Rattle.component.proofs.composing.id_fits.Statement.{statement}

@@ -1,3 +1,5 @@
+-- `component::put_head` meets its contract.
+-- Assumes nothing.
 use mathlib.Core.List.{[], _∷_}
 use lib.ListN.{length-set}
 use Rattle.component.specs.Emitting.{headOctets}

@@ -1,3 +1,5 @@
+-- `component::put_identifier` meets its contract.
+-- Assumes nothing.
 use borrow.Author.Needs.{needs}
 use native.Mathlib.Omega.{arith}
 use Rattle.component.proofs.Putting.{lands, landed, has-form}

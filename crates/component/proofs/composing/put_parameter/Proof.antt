@@ -1,3 +1,5 @@
+-- `component::put_parameter` meets its contract.
+-- Assumes nothing.
 use borrow.Author.Needs.{needs}
 use native.Mathlib.Omega.{arith}
 use Rattle.component.proofs.Composition.{parameter, parameter-room}

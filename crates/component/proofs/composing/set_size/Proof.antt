@@ -1,3 +1,5 @@
+-- `component::set_size` meets its contract.
+-- Assumes nothing.
 use Prim.Native.Nat.{_*_, _-_, _≤_}
 use mathlib.Core.Path.{_≡_, sym, _∙_}
 use Rattle.component.specs.Composing.{entriesFrom}

@@ -1,3 +1,5 @@
+-- `component::whole_size` meets its contract.
+-- Assumes nothing.
 use borrow.Author.Needs.{needs}
 use mathlib.Core.Path.{ap, _∙_}
 use Rattle.component.specs.Composing.{elementSize}

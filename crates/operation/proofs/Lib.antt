@@ -1,0 +1,15 @@
+pub mod Lines
+pub mod Untouched
+pub mod Judging
+pub mod Marks
+pub mod Exact
+pub mod Entries
+pub mod LineCode
+pub mod Repeats
+pub mod RowWalk
+pub mod Verdicts
+pub mod Readings
+pub mod Places
+pub mod Reached
+pub mod Reader
+pub mod Writer

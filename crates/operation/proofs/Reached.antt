@@ -1,0 +1,170 @@
+-- From the engine's answer over the sheet to the reading: the row, the counts, and each place that a refusal points to.
+use Prim.Native.Nat.{ℕ, _+_, _*_, _-_, _<_, _≤_}
+use mathlib.Core.Path.{_≡_, refl, sym, ap, _∙_}
+use mathlib.Core.Bool.{Bool, true, false}
+use mathlib.Core.List.{List, [], _∷_, map, List·Memᴰ, List·Memᴰ·cases-cons, List·Memᴰ·not-nil}
+use mathlib.Core.Logic.{⊎-elim}
+use lib.ListN.{length}
+use lib.Dec.{eqb}
+use borrow.Author.Tests.{le-leb}
+use native.Mathlib.Nat.{zero-add}
+use native.Mathlib.Omega.{arith}
+use Rattle.element.specs.Octets.{Octets, AreOctets, if}
+use Rattle.element.specs.Answer.{Answer, accepted, refused, _>>=_, _>>_}
+use Rattle.component.specs.Layout.{Entry, Layout, layoutOf}
+use Rattle.component.specs.Shown.{specifierIn}
+use Rattle.component.specs.Table.{headingOf, specifierAt, tableWith, copied}
+use Rattle.component.proofs.Laying.{few, copies}
+use Rattle.component.proofs.Sound.{in-order}
+use Rattle.operation.specs.declared.Judged as J
+use Rattle.operation.specs.declared.Judged.the-variants as JV
+use Rattle.operation.specs.Row.{Row, Item, named, judge, countNamed, pointed, remark}
+use Rattle.operation.specs.Rows.{rowOf}
+use Rattle.operation.specs.Points.{Points, repeated, missing, neither, both}
+use Rattle.operation.specs.Coded.{itemsFrom, judgement, verdict, judgedIn}
+use Rattle.operation.specs.Reading.{Shown, itemOf, countOther, reading, tableAfter}
+use Rattle.operation.specs.Told.{Told, told}
+use Rattle.operation.specs.Finishing.{specifierFor, placeFrom, Pointing, detailOf, finished, tableFinished}
+use Rattle.operation.proofs.Marks.{marked, count-marked, points}
+use Rattle.operation.proofs.Readings.{either-row, shownBy, reads, no-row}
+use Rattle.operation.proofs.Places.{indexed, placeAt, sheet-items, placed-items, sheet-place}
+
+-- ---- counts and marks of a run
+all-counted : (row : Row) (xs : List Item) → countNamed row xs + countOther row xs ≡ length xs
+unfolding countNamed countOther
+all-counted row [] = refl
+all-counted row (x ∷ xs) = go (named row (x .is)) (all-counted row xs)
+  where
+    go : (t : Bool) → countNamed row xs + countOther row xs ≡ length xs →
+        if t (1 + countNamed row xs) (countNamed row xs) + if t (countOther row xs) (1 + countOther row xs) ≡ length (x ∷ xs)
+    go true e = omega arith
+    go false e = omega arith
+
+mark-below : (es : List Entry) (i : ℕ) (x : Item) → List·Memᴰ x (indexed i es) → x .mark < i + length es
+unfolding indexed
+mark-below [] i x m = absurd (List·Memᴰ·not-nil m)
+mark-below (e ∷ es) i x m =
+    ⊎-elim (λ f. let g = ap (λ y. y .mark) f in omega arith) (λ n. omega (arith, mark-below es (i + 1) x n)) (List·Memᴰ·cases-cons m)
+
+length-indexed : (es : List Entry) (i : ℕ) → length (indexed i es) ≡ length es
+unfolding indexed
+length-indexed [] i = refl
+length-indexed (e ∷ es) i = omega (arith, length-indexed es (i + 1))
+
+length-items : (es : List Entry) → length (map itemOf es) ≡ length es
+length-items [] = refl
+length-items (e ∷ es) = omega (arith, length-items es)
+
+twice : (t : Bool) (a b c : ℕ) → if t (if t a c) b ≡ if t a b
+twice true a b c = refl
+twice false a b c = refl
+
+module _ (s : Octets) (o : AreOctets s) (given : ℕ) (z : List ℕ) {l : Layout} (e : layoutOf s ≡ accepted l) where
+  pub own : specifierFor (headingOf s (l .head)) given ≡ specifierIn s l given
+  unfolding specifierFor headingOf specifierAt specifierIn
+  own = twice (eqb (l .head .kind) 0xE9) _ given 0
+
+  -- what a row says of the entries, by entry and by place
+  module _ (row : Row) where
+    pointing-at : {n d : ℕ} → Points row (indexed 0 (l .entries)) n d →
+        detailOf (headingOf s (l .head)) (tableWith (l .entries) z) n d ≡ if (eqb n 13) d (placeAt (l .entries) d)
+    unfolding detailOf headingOf
+    pointing-at (repeated x m a b c) = sheet-place (l .entries) z (in-order s o l e) (x .mark) (rw zero-add at (mark-below (l .entries) 0 x m))
+    pointing-at (missing j m a) = refl
+    pointing-at (neither i j m a b) = refl
+    pointing-at (both i j m a b x n c) = sheet-place (l .entries) z (in-order s o l e) (x .mark) (rw zero-add at (mark-below (l .entries) 0 x n))
+
+    by-place : judge row (map itemOf (l .entries)) ≡ pointed (placeAt (l .entries)) (judge row (indexed 0 (l .entries)))
+    by-place = rw (← placed-items (l .entries)) (marked (placeAt (l .entries)) row (indexed 0 (l .entries)))
+
+    same-count : countNamed row (map itemOf (l .entries)) ≡ countNamed row (indexed 0 (l .entries))
+    same-count = rw (← placed-items (l .entries)) (count-marked (placeAt (l .entries)) row (indexed 0 (l .entries)))
+
+    others : length (l .entries) - countNamed row (indexed 0 (l .entries)) ≡ countOther row (map itemOf (l .entries))
+    others = omega (arith, all-counted row (map itemOf (l .entries)), length-items (l .entries), same-count)
+
+    judged : (a : Answer Unit) → judge row (indexed 0 (l .entries)) ≡ a →
+        finished (headingOf s (l .head)) (specifierIn s l given) (length (l .entries)) (tableWith (l .entries) z) (a >>= λ _. accepted (countNamed row (indexed 0 (l .entries))))
+        ≡ told (pointed (placeAt (l .entries)) a >>= λ _. accepted (shownBy s l given row))
+    unfolding finished told pointed headingOf
+    judged (accepted u) q = simp (others, same-count)
+    judged (refused n d) q = ap (refused n) (pointing-at (points row (indexed 0 (l .entries)) q))
+
+    below : {n d : ℕ} → Points row (indexed 0 (l .entries)) n d → (n ≡ 13 → ⊥) → d < length (l .entries)
+    below (repeated x m a b c) f = rw zero-add at (mark-below (l .entries) 0 x m)
+    below (missing j m a) f = absurd (f refl)
+    below (neither i j m a b) f = absurd (f refl)
+    below (both i j m a b x n c) f = rw zero-add at (mark-below (l .entries) 0 x n)
+
+    pointing-by : (a : Answer Unit) → judge row (indexed 0 (l .entries)) ≡ a → (j : J.Judged) →
+        judgedIn j ≡ (a >>= λ _. accepted (countNamed row (indexed 0 (l .entries)))) → Pointing (length (l .entries)) j
+    pointing-by (accepted u) q (JV.Fits named) f =
+        let g : named ≡ countNamed row (indexed 0 (l .entries)) = cc in
+        omega (arith, all-counted row (indexed 0 (l .entries)), length-indexed (l .entries) 0)
+    pointing-by (accepted u) q JV.NoRow f = tt
+    pointing-by (accepted u) q (JV.Again i) f = let z : _≡_ {A = ℕ} 0 1 = cc in absurd (omega arith)
+    pointing-by (accepted u) q (JV.Missing n) f = tt
+    pointing-by (accepted u) q (JV.Both i) f = let z : _≡_ {A = ℕ} 0 1 = cc in absurd (omega arith)
+    pointing-by (refused n d) q (JV.Fits named) f = let z : _≡_ {A = ℕ} 0 1 = cc in absurd (omega arith)
+    pointing-by (refused n d) q JV.NoRow f = tt
+    pointing-by (refused n d) q (JV.Again i) f =
+        let g : 12 ≡ n = cc in
+        let h : i ≡ d = cc in
+        rw h (below (points row (indexed 0 (l .entries)) q) (λ k. omega arith))
+    pointing-by (refused n d) q (JV.Missing m) f = tt
+    pointing-by (refused n d) q (JV.Both i) f =
+        let g : 14 ≡ n = cc in
+        let h : i ≡ d = cc in
+        rw h (below (points row (indexed 0 (l .entries)) q) (λ k. omega arith))
+
+    shows : (t : List ℕ) → 256 ≤ length z → 256 ≤ length t → (a : Answer Unit) →
+        tableFinished (length (l .entries)) (tableWith (l .entries) z) t (a >>= λ _. accepted (countNamed row (indexed 0 (l .entries))))
+        ≡ tableAfter t (pointed (placeAt (l .entries)) a >>= λ _. accepted (shownBy s l given row))
+    unfolding tableFinished tableAfter pointed
+    shows t h k (accepted u) = copies (l .entries) z t (few s e o) h k
+    shows t h k (refused n d) = refl
+
+  -- ---- whatever the row
+  none-told : finished (headingOf s (l .head)) (specifierIn s l given) (length (l .entries)) (tableWith (l .entries) z) (refused 11 0) ≡ told (refused 11 (l .head .operation))
+  unfolding finished detailOf told headingOf
+  none-told = refl
+
+  none-shown : (t : List ℕ) → tableFinished (length (l .entries)) (tableWith (l .entries) z) t (refused 11 0) ≡ tableAfter t (refused 11 (l .head .operation))
+  unfolding tableFinished tableAfter
+  none-shown t = refl
+
+  abbrev said : Answer ℕ
+  said = verdict (l .head .kind) (specifierIn s l given) (itemsFrom (tableWith (l .entries) z) 0 (length (l .entries)))
+
+  pub answers : (room : ℕ) → 256 ≤ room →
+      finished (headingOf s (l .head)) (specifierIn s l given) (length (l .entries)) (tableWith (l .entries) z) said ≡ told (reading s given room)
+  unfolding verdict judgement
+  answers room h =
+      ⊎-elim
+      (λ (row, f). rw (f 0, sheet-items (l .entries) z, reads s given room h e (f (l .head .operation)), by-place row) (judged row (judge row (indexed 0 (l .entries))) refl))
+      (λ f. rw (f 0, no-row s given room h e (f (l .head .operation))) none-told)
+      (either-row (l .head .kind) (specifierIn s l given))
+
+  pub tables : (t : List ℕ) → 256 ≤ length z → 256 ≤ length t →
+      tableFinished (length (l .entries)) (tableWith (l .entries) z) t said ≡ tableAfter t (reading s given (length t))
+  unfolding verdict judgement
+  tables t h k =
+      ⊎-elim
+      (λ (row, f). rw (f 0, sheet-items (l .entries) z, reads s given (length t) k e (f (l .head .operation)), by-place row) (shows row t h k (judge row (indexed 0 (l .entries)))))
+      (λ f. rw (f 0, no-row s given (length t) k e (f (l .head .operation))) (none-shown t))
+      (either-row (l .head .kind) (specifierIn s l given))
+
+  pub pointing : (j : J.Judged) → judgedIn j ≡ said → Pointing (length (l .entries)) j
+  unfolding verdict judgement
+  pointing j q =
+      ⊎-elim
+      (λ (row, f). pointing-by row (judge row (indexed 0 (l .entries))) refl j (q ∙ rw (f 0, sheet-items (l .entries) z)))
+      (λ f. none j (q ∙ rw (f 0)))
+      (either-row (l .head .kind) (specifierIn s l given))
+    where
+      none : (j : J.Judged) → judgedIn j ≡ refused 11 0 → Pointing (length (l .entries)) j
+      none (JV.Fits named) f = let z : _≡_ {A = ℕ} 0 1 = cc in absurd (omega arith)
+      none JV.NoRow f = tt
+      none (JV.Again i) f = let z : _≡_ {A = ℕ} 12 11 = cc in absurd (omega arith)
+      none (JV.Missing n) f = tt
+      none (JV.Both i) f = let z : _≡_ {A = ℕ} 14 11 = cc in absurd (omega arith)

@@ -1,0 +1,60 @@
+-- The steps of a reading: its row, which does not hang on the place that 11 would point to, and what stands behind them.
+use Prim.Native.Nat.{ℕ, _≤_}
+use mathlib.Core.Path.{_≡_, refl, sym, _∙_}
+use mathlib.Core.Bool.{Bool, true, false, _&&_}
+use mathlib.Core.List.{List, [], _∷_, map}
+use mathlib.Core.Logic.{_⊎_, inl, inr, ⊎-elim}
+use lib.Dec.{eqb}
+use borrow.Author.Tests.{le-leb}
+use native.Mathlib.Omega.{arith}
+use Rattle.element.specs.Octets.{Octets, if, between}
+use Rattle.element.specs.Answer.{Answer, accepted, refused, _>>_}
+use Rattle.component.specs.Layout.{Layout, layoutOf}
+use Rattle.component.specs.Shown.{specifierIn}
+use Rattle.operation.specs.Row.{Row, judge, countNamed}
+use Rattle.operation.specs.Rows.{Operation, operations, find, rowOf}
+use Rattle.operation.specs.Reading.{Shown, itemOf, countOther, reading}
+
+-- a row is there, or 11 points wherever it is told to
+abbrev Either : (ℕ → Answer Row) → Type 0
+Either f = ((row : Row) × ((at : ℕ) → f at ≡ accepted row)) ⊎ ((at : ℕ) → f at ≡ refused 11 at)
+
+module _ (kind specifier : ℕ) where
+  find-either : (os : List Operation) → Either (λ at. find kind specifier at os)
+  unfolding find
+  find-either [] = inr (λ at. refl)
+  find-either (o ∷ os) = step (eqb kind (o .kind) && eqb specifier (o .specifier)) (find-either os)
+    where
+      step : (t : Bool) → Either (λ at. find kind specifier at os) → Either (λ at. if t (accepted (o .row)) (find kind specifier at os))
+      step true e = inl (o .row, λ at. refl)
+      step false e = e
+
+  pub either-row : Either (λ at. rowOf kind specifier at)
+  unfolding rowOf
+  either-row = find-either operations
+
+  pub anywhere : (a : ℕ) {row : Row} → rowOf kind specifier a ≡ accepted row → (b : ℕ) → rowOf kind specifier b ≡ accepted row
+  anywhere a {row} e b =
+      ⊎-elim (λ (found, f). f b ∙ sym (f a) ∙ e) (λ f. let g = f a in let z : _≡_ {A = ℕ} 0 1 = cc in absurd (omega arith)) either-row
+
+-- what is shown of a layout by its row
+abbrev pub shownBy : Octets → Layout → (given : ℕ) → Row → Shown
+shownBy s l given row =
+    record {
+      kind = l .head .kind;
+      id = between (l .head .id .start) (l .head .id .end) s;
+      specifier = specifierIn s l given;
+      entries = l .entries;
+      named = countNamed row (map itemOf (l .entries));
+      other = countOther row (map itemOf (l .entries));
+    }
+
+module _ (s : Octets) (given room : ℕ) {l : Layout} (h : 256 ≤ room) (e : layoutOf s ≡ accepted l) where
+  pub reads : {row : Row} → rowOf (l .head .kind) (specifierIn s l given) (l .head .operation) ≡ accepted row →
+      reading s given room ≡ (judge row (map itemOf (l .entries)) >> accepted (shownBy s l given row))
+  unfolding reading
+  reads f = simp (le-leb 256 room, e, f)
+
+  pub no-row : rowOf (l .head .kind) (specifierIn s l given) (l .head .operation) ≡ refused 11 (l .head .operation) → reading s given room ≡ refused 11 (l .head .operation)
+  unfolding reading
+  no-row f = simp (le-leb 256 room, e, f)

@@ -1,0 +1,60 @@
+-- `operation::row_names` meets its contract. The invariant: the row names the key where the lines that are left do.
+-- Assumes nothing.
+use Prim.Native.Nat.{_-_}
+use mathlib.Core.Path.{_≡_, refl, sym, _∙_}
+use lib.ListN.{length}
+use borrow.Author.Needs.{needs}
+use Rattle.operation.specs.Row.{named}
+use Rattle.operation.specs.Coded.{rowIn}
+use Rattle.operation.proofs.RowWalk.{rowFrom, line-at, row-over, unnamed, named-here, named-on}
+use Rattle.operation.proofs.engine.row_names.Statement.{statement}
+use Rattle.operation.proofs.engine.row_names.Tie as tie
+
+abbrev Inv-loop : tie.InvT-loop
+Inv-loop row key at₀ at = named (rowIn row) key ≡ named (rowFrom row at) key
+
+abbrev μ-loop : tie.MeasureT-loop
+μ-loop row key at₀ at = length row - at
+
+loop-holds : tie.Need-loop-holds Inv-loop μ-loop
+loop-holds c = refl
+
+mul-line-names : tie.Need-mul-line-names Inv-loop μ-loop
+mul-line-names c = search needs
+
+shared-slice-read-line-names : tie.Need-shared-slice-read-line-names Inv-loop μ-loop
+shared-slice-read-line-names c = search needs
+
+line-names-requires : tie.Need-line-names-requires Inv-loop μ-loop
+line-names-requires c κs = search needs
+
+returns : tie.Need-returns Inv-loop μ-loop
+returns c = named-here (line-at _ _ (c .before .before .before .loop-test .taken)) _ (c .before .line-names .ensures) (c .if1 .taken) ∙ sym (c .before .before .before .before .loop .inv)
+
+add-at : tie.Need-add-at Inv-loop μ-loop
+add-at c = search needs
+
+loop-less : tie.Need-loop-less Inv-loop μ-loop
+loop-less c = search needs
+
+loop-again : tie.Need-loop-again Inv-loop μ-loop
+loop-again c = c .before .before .before .before .loop .inv ∙ sym (named-on (line-at _ _ (c .before .before .before .loop-test .taken)) _ (c .before .line-names .ensures) (c .if1 .left))
+
+returns-2 : tie.Need-returns-2 Inv-loop μ-loop
+returns-2 c = unnamed _ (row-over _ _ (c .loop-test .left)) ∙ sym (c .before .loop .inv)
+
+pub row-names-spec : {M : Type 1} → statement M
+row-names-spec =
+    tie.close
+    (tie.spec
+    Inv-loop
+    μ-loop
+    loop-holds
+    mul-line-names
+    shared-slice-read-line-names
+    line-names-requires
+    returns
+    add-at
+    loop-less
+    loop-again
+    returns-2)

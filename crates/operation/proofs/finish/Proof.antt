@@ -1,0 +1,91 @@
+-- `operation::finish` meets its contract: each case of the engine's answer says its own number.
+-- Assumes nothing.
+use borrow.Author.Needs.{needs}
+use mathlib.Core.Path.{_≡_, refl, sym, ap, _∙_}
+use native.Mathlib.Omega.{arith}
+use Rattle.operation.specs.Coded.{judgedIn}
+use Rattle.operation.specs.Finishing.{Pointing, detailOf, finished, tableFinished}
+use Rattle.operation.proofs.finish.Statement.{statement}
+use Rattle.operation.proofs.finish.Tie as tie
+
+enum-known-judged : tie.Need-enum-known-judged
+enum-known-judged c = search needs
+
+mul-copy-numbers : tie.Need-mul-copy-numbers
+mul-copy-numbers c = search needs
+
+copy-numbers-requires : tie.Need-copy-numbers-requires
+copy-numbers-requires c κs = search needs
+
+sub-t16 : tie.Need-sub-t16
+sub-t16 c = omega (arith, rw (c .before .before .before .before .before .before .judged .given .1) at (c .before .before .before .before .before .before .before .before .before .before .pre .5))
+
+enum-told : tie.Need-enum-told
+enum-told c = search needs
+
+cast-t17 : tie.Need-cast-t17
+cast-t17 c = search needs
+
+enum-known-judged-2 : tie.Need-enum-known-judged-2
+enum-known-judged-2 c = search needs
+
+place-of-requires : tie.Need-place-of-requires
+place-of-requires c κs = omega (arith, rw (c .before .judged2 .given .1) at (c .before .before .before .before .before .pre .5))
+
+enum-known-judged-3 : tie.Need-enum-known-judged-3
+enum-known-judged-3 c = search needs
+
+cast-t19 : tie.Need-cast-t19
+cast-t19 c = search needs
+
+enum-known-judged-4 : tie.Need-enum-known-judged-4
+enum-known-judged-4 c = search needs
+
+place-of-requires-2 : tie.Need-place-of-requires-2
+place-of-requires-2 c κs = omega (arith, rw (c .before .judged4 .given .1) at (c .before .before .before .before .before .pre .5))
+
+same-length : tie.Need-same-length
+same-length c = search needs
+
+returns : tie.Need-returns
+unfolding finished tableFinished
+returns c = rw (c .before .before .before .before .before .before .judged .given .1) (refl, c .before .before .before .copy-numbers .ensures)
+
+returns-2 : tie.Need-returns-2
+unfolding finished tableFinished detailOf
+returns-2 c = rw (c .before .enum-told .given .1) (refl, refl)
+
+returns-3 : tie.Need-returns-3
+unfolding finished tableFinished detailOf
+returns-3 c = rw (c .before .before .judged2 .given .1, ← c .place-of .ensures) (refl, refl)
+
+returns-4 : tie.Need-returns-4
+unfolding finished tableFinished detailOf
+returns-4 c = rw (c .before .judged3 .given .1) (refl, refl)
+
+returns-5 : tie.Need-returns-5
+unfolding finished tableFinished detailOf
+returns-5 c = rw (c .before .before .judged4 .given .1, ← c .place-of2 .ensures) (refl, refl)
+
+pub finish-spec : {M : Type 1} → statement M
+finish-spec =
+    tie.close
+    (tie.spec
+    enum-known-judged
+    mul-copy-numbers
+    copy-numbers-requires
+    sub-t16
+    enum-told
+    cast-t17
+    enum-known-judged-2
+    place-of-requires
+    enum-known-judged-3
+    cast-t19
+    enum-known-judged-4
+    place-of-requires-2
+    same-length
+    returns
+    returns-2
+    returns-3
+    returns-4
+    returns-5)

@@ -1,0 +1,26 @@
+-- The parameter table of an operation as the book words it: how often each identifier occurs, with no order of checks.
+use Prim.Native.Nat.{ℕ, _+_, _≤_}
+use mathlib.Core.Path.{_≡_}
+use mathlib.Core.Bool.{Bool, true, false}
+use mathlib.Core.List.{List, [], _∷_}
+use lib.Dec.{eqb}
+use Rattle.element.specs.Octets.{if}
+use Rattle.operation.specs.Row.{Row, Line, must, oneOf, may, named, repeats}
+
+unfoldable pub times : ℕ → List ℕ → ℕ
+times k [] = 0
+times k (j ∷ js) = if (eqb j k) (1 + times k js) (times k js)
+
+pub data Kept (ks : List ℕ) : Line → Type 0 where
+  occurred : (j : ℕ) → 1 ≤ times j ks → Kept ks (must j)
+  first : (i j : ℕ) → 1 ≤ times i ks → times j ks ≡ 0 → Kept ks (oneOf i j)
+  second : (i j : ℕ) → times i ks ≡ 0 → 1 ≤ times j ks → Kept ks (oneOf i j)
+  allowed : (j : ℕ) → Kept ks (may j)
+
+pub data Each {A : Type 0} (P : A → Type 0) : List A → Type 0 where
+  none : Each P []
+  more : {x : A} {xs : List A} → P x → Each P xs → Each P (x ∷ xs)
+
+pub record Fits (row : Row) (ks : List ℕ) : Type 0 where
+  pub kept : Each (Kept ks) row
+  pub once : (k : ℕ) → named row k ≡ true → repeats k ≡ false → times k ks ≤ 1

@@ -1,0 +1,12 @@
+pub mod Row
+pub mod Rows
+pub mod Book
+pub mod Newcomers
+pub mod Points
+pub mod Coded
+pub mod Firsts
+pub mod Reading
+pub mod Writing
+pub mod Told
+pub mod Finishing
+pub mod Demands

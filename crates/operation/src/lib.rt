@@ -1,0 +1,218 @@
+// The operation rows over a component: reading and writing.
+mod engine;
+mod rows;
+
+use component::Count;
+use component::Heading;
+use component::Id;
+use component::Layout;
+use component::Measured;
+use engine::wide;
+use rows::judge_operation;
+ghost use mathlib.Core.Path.{_≡_};
+ghost use Prim.Native.Nat.{_*_, _<_, _≤_};
+ghost use lib.ListN.{length};
+ghost use Rattle.component.specs.Composing.{written, outputAfter};
+ghost use Rattle.operation.specs.Coded.{judgedIn};
+ghost use Rattle.operation.specs.Finishing.{
+  specifierFor,
+  placeFrom,
+  Pointing,
+  finished,
+  tableFinished,
+};
+ghost use Rattle.operation.specs.Reading.{reading, tableAfter};
+ghost use Rattle.operation.specs.Writing.{writing};
+ghost use Rattle.operation.specs.Told.{told, answerIn, writtenIn};
+
+// What the engine says of a run of parameters; it points by entries.
+pub enum Judged {
+    // How many of them the row names.
+    Fits(usize),
+    NoRow,
+    Again(usize),
+    Missing(u16),
+    Both(usize),
+}
+
+pub enum Reading {
+    Accepted {
+        kind: u8,
+        id: Id,
+        specifier: u8,
+        all: usize,
+        named: usize,
+        other: usize,
+    },
+    Refused {
+        number: u8,
+        detail: u32,
+    },
+}
+
+pub enum Writing {
+    // How many octets were written.
+    Accepted(usize),
+    Refused { number: u8, detail: u32 },
+}
+
+// What the row names and occurs again, and is not Digits; else how many of the parameters the row names.
+enum Repeat {
+    None { named: usize },
+    At(usize),
+}
+
+// What must occur and does not.
+enum Missing {
+    None,
+    Number(u16),
+}
+
+// A choice of which both members occur: the last entry that is one of them.
+enum Both {
+    None,
+    At(usize),
+}
+
+// ---- reader
+
+// The specifier of a reading: an INVOKE carries its own, a RESULT has the one that is handed in.
+fn specifier_of(heading: Heading, given: u8) -> u8
+    ensures { λ r. ⌜ r ≡ specifierFor heading given ⌝ }
+{
+    let kind = heading.kind;
+    if kind == 0xE9 {
+        return heading.specifier;
+    }
+    given
+}
+
+// The place of an entry of the sheet: where the one before it ends, the first where the set's contents start.
+fn place_of(sheet: &[u16], entry: usize, set: usize) -> u32
+    requires { ⌜ (4 * entry ≤ length (now sheet)) × (entry ≤ 64) × (set ≤ 4096) ⌝ }
+    ensures { λ r. ⌜ r ≡ placeFrom (now (sheet .entry)) set entry ⌝ }
+{
+    if entry == 0 {
+        return set as u32;
+    }
+    let start = wide(sheet[4 * entry - 2]);
+    let size = wide(sheet[4 * entry - 1]);
+    (start + size) as u32
+}
+
+// What the row says of the parameters: where all fits they are shown, else a refusal points into the component.
+fn finish(
+    heading: Heading,
+    specifier: u8,
+    count: usize,
+    judged: Judged,
+    sheet: &[u16],
+    table: &mut [u16],
+) -> Reading
+    requires { ⌜ (count ≤ 64) × (256 ≤ length (now sheet)) × (256 ≤ length (now table)) × (heading .operation ≤ 4096) × (heading .set ≤ 4096)
+        × Pointing count judged ⌝ }
+    ensures { λ r. ⌜ (answerIn r ≡ finished heading specifier count (now (sheet .entry)) (judgedIn judged))
+        × (now (table .exit) ≡ tableFinished count (now (sheet .entry)) (now (table .entry)) (judgedIn judged)) ⌝ }
+{
+    match judged {
+        Judged::Fits(named) => {
+            component::copy_numbers(sheet, table, 4 * count);
+            let id = heading.id;
+            Reading::Accepted {
+                kind: heading.kind,
+                id,
+                specifier,
+                all: count,
+                named,
+                other: count - named,
+            }
+        }
+        Judged::NoRow => Reading::Refused {
+            number: 11,
+            detail: heading.operation as u32,
+        },
+        Judged::Again(entry) => Reading::Refused {
+            number: 12,
+            detail: place_of(sheet, entry, heading.set),
+        },
+        Judged::Missing(number) => Reading::Refused {
+            number: 13,
+            detail: number as u32,
+        },
+        Judged::Both(entry) => Reading::Refused {
+            number: 14,
+            detail: place_of(sheet, entry, heading.set),
+        },
+    }
+}
+
+// Reads a component. A RESULT is of the operation whose specifier is handed in; four numbers for each parameter go to
+// the lent table, which a refusal leaves as it was.
+pub fn read(component: &[u8], specifier: u8, table: &mut [u16]) -> Reading
+    ensures { λ r. ⌜ (answerIn r ≡ told (reading (now (component .entry)) specifier (length (now (table .entry)))))
+        × (now (table .exit) ≡ tableAfter (now (table .entry)) (reading (now (component .entry)) specifier (length (now (table .entry))))) ⌝ }
+{
+    if table.len() < 256 {
+        return Reading::Refused {
+            number: 1,
+            detail: 0,
+        };
+    }
+    let mut sheet = [0u16; 256];
+    match component::fill_layout(component, &mut sheet) {
+        Layout::Accepted { heading, count } => {
+            let kind = heading.kind;
+            let own = specifier_of(heading, specifier);
+            let judged = judge_operation(kind, own, &sheet, count);
+            finish(heading, own, count, judged, &sheet, table)
+        }
+        Layout::Refused { number, detail } => Reading::Refused { number, detail },
+    }
+}
+
+// ---- writer
+
+// Writes a component from a table of entries and the octets that they point into. Only the octets that are counted
+// change, and on a refusal none.
+pub fn write(
+    kind: u8,
+    id: Id,
+    specifier: u8,
+    count: usize,
+    table: &[u16],
+    source: &[u8],
+    out: &mut [u8],
+) -> Writing
+    ensures { λ r. ⌜ (writtenIn r ≡ written (writing kind id specifier count (now (table .entry)) (now (source .entry)) (length (now (out .entry)))))
+        × (now (out .exit) ≡ outputAfter (now (out .entry)) (writing kind id specifier count (now (table .entry)) (now (source .entry)) (length (now (out .entry))))) ⌝ }
+{
+    match component::measure(kind, id, count, table, source) {
+        Measured::Octets { whole: _, set: _ } => {
+            match judge_operation(kind, specifier, table, count) {
+                Judged::Fits(_) => {
+                    match component::compose(kind, id, specifier, count, table, source, out) {
+                        Count::Of(octets) => Writing::Accepted(octets),
+                        Count::Refused { number, detail } => Writing::Refused { number, detail },
+                    }
+                }
+                Judged::NoRow => Writing::Refused {
+                    number: 11,
+                    detail: 0,
+                },
+                Judged::Again(entry) => Writing::Refused {
+                    number: 12,
+                    detail: entry as u32,
+                },
+                Judged::Missing(number) => Writing::Refused {
+                    number: 13,
+                    detail: number as u32,
+                },
+                Judged::Both(entry) => Writing::Refused {
+                    number: 14,
+                    detail: entry as u32,
+                },
+            }
+        }
+        Measured::Refused { number, detail } => Writing::Refused { number, detail },
+    }
+}
