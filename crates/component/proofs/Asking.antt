@@ -15,15 +15,15 @@ module _ (Q : ℕ → ℕ → Type 0) where
   answered (accepted x) q = gives refl
   answered (refused n d) q = stops (q n d refl)
 
-  pub tested : (t : Bool) {n d : ℕ} → Q n d → Ends (λ _. t ≡ true) Q (check t n d)
+  pub tested : (t : Bool) {n d : ℕ} → (t ≡ false → Q n d) → Ends (λ _. t ≡ true) Q (check t n d)
   tested true q = gives refl
-  tested false q = stops q
+  tested false q = stops (q refl)
 
-  pub entries-ends : (i count : ℕ) (table : List ℕ) (source : Octets) → ((d : ℕ) → d < i + count → Q 16 d) →
-      Ends (λ ps. length ps ≡ count) Q (entriesFrom i count table source)
+  pub entries-ends : (i count : ℕ) (table : List ℕ) (source : Octets) → ((d : ℕ) → d < i + count → entryStands table source d ≡ false → Q 16 d) →
+      Ends (λ ps. (entriesFrom i count table source ≡ accepted ps) × (length ps ≡ count)) Q (entriesFrom i count table source)
   unfolding entriesFrom
-  entries-ends i zero t source q = gives refl
+  entries-ends i zero t source q = gives (refl, refl)
   entries-ends i (suc n) t source q =
-      then (tested (entryStands t source i) (q i (omega arith))) λ _ _.
-      then (entries-ends (i + 1) n t source λ d h. q d (omega arith)) λ ps e.
-      gives (omega arith)
+      then (tested (entryStands t source i) (q i (omega arith))) λ _ stands.
+      then (entries-ends (i + 1) n t source λ d h. q d (omega arith)) λ ps (e, l).
+      gives (simp (stands, e), omega arith)

@@ -14,7 +14,7 @@ use Rattle.component.specs.Composed.{element, setOf}
 use Rattle.component.specs.Composing.{entryOf, entryStands, entriesFrom}
 use Rattle.component.specs.Emitting.{Put, AllStand, entries}
 use Rattle.component.proofs.Putting.{Left, goes-on}
-use Rattle.component.proofs.Measuring.{passed, gave}
+use Rattle.component.proofs.Taken.{taken, passed}
 
 module _ (t : List ℕ) (source : Octets) where
   -- an entry is accepted, and then the others
@@ -22,9 +22,8 @@ module _ (t : List ℕ) (source : Octets) where
       (entryStands t source i ≡ true) × ((qs : List Parameter) × (entriesFrom (i + 1) n t source ≡ accepted qs) × (ps ≡ entryOf t source i ∷ qs))
   unfolding entriesFrom
   first i n {ps} e =
-      let more : List Parameter → Answer (List Parameter) = λ qs. accepted (entryOf t source i ∷ qs) in
-      let (s, a) = passed (entryStands t source i) 16 i (entriesFrom (i + 1) n t source >>= more) e in
-      let (qs, x, y) = gave (entriesFrom (i + 1) n t source) more a in
+      let (s, a) = passed (entryStands t source i) 16 i e in
+      let (qs, x, y) = taken (entriesFrom (i + 1) n t source) a in
       (s, (qs, x, cc))
 
   pub listed : (i n : ℕ) {ps : List Parameter} → entriesFrom i n t source ≡ accepted ps → ps ≡ entries i n t source

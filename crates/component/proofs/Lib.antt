@@ -20,3 +20,8 @@ pub mod Emission
 pub mod Outcome
 pub mod Asking
 pub mod Specifier
+pub mod Taken
+pub mod Sizes
+pub mod Entries
+pub mod Making
+pub mod Growing

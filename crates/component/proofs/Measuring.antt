@@ -13,6 +13,7 @@ use Rattle.component.specs.declared.Id as D
 use Rattle.component.specs.Grammar.{Parameter}
 use Rattle.component.specs.Composing.{elementSize, setSize, bodySize, octetsNeeded, idFits, entriesFrom, entriesOf, Sizes, measured}
 use Rattle.component.specs.Emitting.{sized, measuredOf}
+use Rattle.component.proofs.Taken.{taken, passed}
 
 -- the kinds that there are
 pub invoke-known : (kind : ℕ) → kind ≡ 0xE9 → (eqb kind 0xE9 || eqb kind 0xEA) ≡ true
@@ -78,14 +79,6 @@ module _ (kind id set : ℕ) {whole : ℕ} (e : whole ≡ elementSize 1 (bodySiz
   measures h = simp (← e, le-leb whole 4096)
 
 -- back from what is accepted
-pub passed : (t : Bool) (n d : ℕ) {A : Type 0} (a : Answer A) {x : A} → (check t n d >> a) ≡ accepted x → (t ≡ true) × (a ≡ accepted x)
-passed true n d a e = (refl, e)
-passed false n d a e = (cc, cc)
-
-pub gave : {A B : Type 0} (a : Answer A) (f : A → Answer B) {y : B} → (a >>= f) ≡ accepted y → (x : A) × (a ≡ accepted x) × (f x ≡ accepted y)
-gave (accepted x) f e = (x, refl, e)
-gave (refused n d) f e = let z : _≡_ {A = ℕ} 0 1 = cc in absurd (omega arith)
-
 module _ (kind : ℕ) (id : D.Id) (count : ℕ) (t : List ℕ) (source : Octets) where
   pub record Ready (ps : List Parameter) : Type 0 where
     pub known : (eqb kind 0xE9 || eqb kind 0xEA) ≡ true
@@ -98,14 +91,11 @@ module _ (kind : ℕ) (id : D.Id) (count : ℕ) (t : List ℕ) (source : Octets)
   pub ready : {ps : List Parameter} → entriesOf kind id count t source ≡ accepted ps → Ready ps
   unfolding entriesOf
   ready {ps} e =
-      let listed = entriesFrom 0 count t source >>= checked kind (id .count) in
-      let roomy = check (leb (4 * count) (length t)) 1 0 >> listed in
-      let few = check (leb count 64) 10 0 >> roomy in
-      let (k, a) = passed (eqb kind 0xE9 || eqb kind 0xEA) 3 0 (check (idFits kind (id .count)) 6 0 >> few) e in
-      let (f, b) = passed (idFits kind (id .count)) 6 0 few a in
-      let (m, c) = passed (leb count 64) 10 0 roomy b in
-      let (r, d) = passed (leb (4 * count) (length t)) 1 0 listed c in
-      let (qs, x, y) = gave (entriesFrom 0 count t source) (checked kind (id .count)) d in
-      let (l, z) = passed (leb (octetsNeeded kind (id .count) qs) 4096) 15 (octetsNeeded kind (id .count) qs) (accepted qs) y in
+      let (k, a) = passed (eqb kind 0xE9 || eqb kind 0xEA) 3 0 e in
+      let (f, b) = passed (idFits kind (id .count)) 6 0 a in
+      let (m, c) = passed (leb count 64) 10 0 b in
+      let (r, d) = passed (leb (4 * count) (length t)) 1 0 c in
+      let (qs, x, y) = taken (entriesFrom 0 count t source) d in
+      let (l, z) = passed (leb (octetsNeeded kind (id .count) qs) 4096) 15 (octetsNeeded kind (id .count) qs) y in
       let same : qs ≡ ps = cc in
       rw (← same) (record { known = k; fit = f; few = leb-true _ _ m; room = leb-true _ _ r; entries = x; short = leb-true _ _ l })

@@ -30,7 +30,8 @@ use Rattle.component.specs.Composing.{
 use Rattle.component.specs.Emitting.{Put, headOctets, AllStand, entries}
 use Rattle.component.proofs.Putting.{then}
 use Rattle.component.proofs.Composition as composition
-use Rattle.component.proofs.Measuring.{sizesOf, Ready, ready, gave}
+use Rattle.component.proofs.Taken.{taken}
+use Rattle.component.proofs.Measuring.{sizesOf, Ready, ready}
 use Rattle.component.proofs.Emission.{listed, stand}
 
 small : (t : Bool) (count : ℕ) → if t (leb count 2) (eqb count 1) ≡ true → count ≤ 2
@@ -64,7 +65,7 @@ module _ (kind : ℕ) (id : D.Id) (count : ℕ) (t : List ℕ) (source : Octets)
   pub found : {whole set : ℕ} → accepted (record { whole = whole; set = set }) ≡ measured kind id count t source → Found whole set
   unfolding measured
   found {whole} {set} e =
-      let (ps, x, y) = gave (entriesOf kind id count t source) (λ ps. accepted (sizesOf kind (id .count) ps)) (sym e) in
+      let (ps, x, y) = taken (entriesOf kind id count t source) (sym e) in
       let r = ready kind id count t source x in
       let l = listed t source 0 count (r .entries) in
       let z : sizesOf kind (id .count) ps ≡ record { whole = whole; set = set } = cc in

@@ -10,6 +10,11 @@ pub mod RowWalk
 pub mod Verdicts
 pub mod Readings
 pub mod Places
+pub mod Marked
 pub mod Reached
 pub mod Reader
 pub mod Writer
+pub mod Keys
+pub mod Demand1
+pub mod Demand2
+pub mod Demand3

@@ -20,12 +20,11 @@ unfoldable pub indexed : ℕ → List Entry → List Item
 indexed i [] = []
 indexed i (e ∷ es) = record { is = key (e .number) (e .form); mark = i } ∷ indexed (i + 1) es
 
--- the place of an entry
-abbrev placeOf : Entry → ℕ
-placeOf e = e .place
-
+-- the place of the i-th
 unfoldable pub placeAt : List Entry → ℕ → ℕ
-placeAt es i = getD (map placeOf es) i 0
+placeAt [] i = 0
+placeAt (e ∷ es) zero = e .place
+placeAt (e ∷ es) (suc i) = placeAt es i
 
 -- ---- the sheet holds them
 at-entry : (pre : List ℕ) (i : ℕ) (rest : List ℕ) (k : ℕ) → length pre ≡ 4 * i → getD (pre ++ rest) (4 * i + k) 0 ≡ getD rest k 0

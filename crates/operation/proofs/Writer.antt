@@ -11,7 +11,8 @@ use Rattle.element.specs.Answer.{Answer, accepted, refused, _>>=_}
 use Rattle.component.specs.declared.Id as D
 use Rattle.component.specs.Grammar.{Parameter}
 use Rattle.component.specs.Composing.{entryOf, entryStands, entriesFrom, entriesOf, octetsNeeded, setSize, Sizes, measured, octetsOf, composing}
-use Rattle.component.proofs.Measuring.{passed, gave, ready}
+use Rattle.component.proofs.Taken.{taken, passed}
+use Rattle.component.proofs.Measuring.{ready}
 use Rattle.operation.specs.Row.{Row, Item, judge, countNamed}
 use Rattle.operation.specs.Rows.{rowOf}
 use Rattle.operation.specs.Coded.{itemAt, itemsFrom, judgement, verdict}
@@ -24,8 +25,8 @@ same-items : (t : List ℕ) (source : Octets) (i n : ℕ) {ps : List Parameter} 
 unfolding entriesFrom itemsFrom itemsOf itemAt entryOf
 same-items t source i zero {ps} e = let f : [] ≡ ps = cc in rw (← f)
 same-items t source i (suc n) {ps} e =
-    let (a, f) = passed (entryStands t source i) 16 i _ e in
-    let (qs, g, h) = gave (entriesFrom (i + 1) n t source) _ f in
+    let (a, f) = passed (entryStands t source i) 16 i e in
+    let (qs, g, h) = taken (entriesFrom (i + 1) n t source) f in
     let k : entryOf t source i ∷ qs ≡ ps = cc in
     rw (← k) (ap (λ xs. itemAt t i ∷ xs) (same-items t source (i + 1) n g))
 
@@ -55,7 +56,7 @@ module _ (kind : ℕ) (id : D.Id) (specifier count : ℕ) (t : List ℕ) (source
   module _ {sizes : Sizes} (e : accepted sizes ≡ measured kind id count t source) where
     made : (ps : List Parameter) × (entriesOf kind id count t source ≡ accepted ps)
     unfolding measured
-    made = let (ps, f, g) = gave (entriesOf kind id count t source) _ (sym e) in (ps, f)
+    made = let (ps, f, g) = taken (entriesOf kind id count t source) (sym e) in (ps, f)
 
     pub bounds : (4 * count ≤ length t) × (count ≤ 64)
     bounds = let r = ready kind id count t source (made .1) in (r .room, r .few)

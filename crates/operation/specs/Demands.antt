@@ -1,11 +1,12 @@
 -- The three demands, to be read beside the paper. Their proofs stand in `proofs/Demand1`, `Demand2` and `Demand3`.
-use Prim.Native.Nat.{ℕ, zero, suc, _+_, _<_, _≤_}
+use Prim.Native.Nat.{ℕ, zero, suc, _+_, _*_, _<_, _≤_}
 use mathlib.Core.Path.{_≡_}
-use mathlib.Core.Bool.{Bool, true, false, not}
+use mathlib.Core.Bool.{Bool, true, false, not, _||_}
 use mathlib.Core.List.{List, [], _∷_, map}
 use mathlib.Core.Logic.{_⊎_}
 use mathlib.Core.Option.{some}
 use lib.ListN.{length, getElem?}
+use lib.Dec.{eqb}
 use Rattle.element.specs.Octets.{Octets, AreOctets, if}
 use Rattle.element.specs.Answer.{Answer, accepted, refused}
 use Rattle.component.specs.declared.Id as D
@@ -14,12 +15,13 @@ use Rattle.component.specs.Grammar.{Parameter, Component, Invoke, Result, Laid,
 use Rattle.component.specs.Shown.{Shows, Pairwise, specifierIn}
 use Rattle.component.specs.Listed.{Listed}
 use Rattle.component.specs.Table.{idOf}
-use Rattle.component.specs.Composing.{idOctets, octetsNeeded, entriesFrom, outputAfter}
+use Rattle.component.specs.Composing.{idFits, idOctets, entryStands, octetsNeeded, entriesFrom, outputAfter}
 use Rattle.operation.specs.Row.{Line, must, oneOf, Row, key, numberOf, named as names}
 use Rattle.operation.specs.Rows.{rowOf}
 use Rattle.operation.specs.Book.{Fits}
-use Rattle.operation.specs.Reading.{Shown, reading, tableAfter}
-use Rattle.operation.specs.Writing.{writing}
+use Rattle.operation.specs.Points.{Points}
+use Rattle.operation.specs.Reading.{Shown, itemOf, reading, tableAfter}
+use Rattle.operation.specs.Writing.{itemsOf, writing}
 
 abbrev pub keyOf : Parameter → ℕ
 keyOf p = key (p .number) (p .form)
@@ -42,35 +44,46 @@ pub data Wants : Row → ℕ → Type 0 where
 
 pub data ReaderGives (s : Octets) (given room : ℕ) : (number detail : ℕ) → Type 0 where
   table : room < 256 → ReaderGives s given room 1 0
-  layout : {n d : ℕ} → Listed n d (length s) → ReaderGives s given room n d
+  layout : {n d : ℕ} → layoutOf s ≡ refused n d → Listed n d (length s) → ReaderGives s given room n d
+  -- 11: the specifier's place in an INVOKE, else 0
   no-row-invoke : (l : Layout) → layoutOf s ≡ accepted l → l .head .kind ≡ 0xE9 → l .head .operation < length s →
-      ReaderGives s given room 11 (l .head .operation)  -- the specifier's place
-  no-row-result : (l : Layout) → layoutOf s ≡ accepted l → l .head .kind ≡ 0xEA → ReaderGives s given room 11 0
-  again : {i d : ℕ} → PlaceOf s i d → ReaderGives s given room 12 d
+      rowOf (l .head .kind) (specifierIn s l given) 0 ≡ refused 11 0 → ReaderGives s given room 11 (l .head .operation)
+  no-row-result : (l : Layout) → layoutOf s ≡ accepted l → l .head .kind ≡ 0xEA → rowOf (l .head .kind) (specifierIn s l given) 0 ≡ refused 11 0 →
+      ReaderGives s given room 11 0
+  -- 12, 14: the place of a parameter; 13: a number of the row; what is wrong is what `Points` says
+  again : (l : Layout) {row : Row} {i d : ℕ} → layoutOf s ≡ accepted l → rowOf (l .head .kind) (specifierIn s l given) 0 ≡ accepted row →
+      Points row (map itemOf (l .entries)) 12 d → PlaceOf s i d → ReaderGives s given room 12 d
   missing : (l : Layout) {row : Row} {d : ℕ} → layoutOf s ≡ accepted l → rowOf (l .head .kind) (specifierIn s l given) 0 ≡ accepted row →
-      Wants row d → ReaderGives s given room 13 d
-  both : {i d : ℕ} → PlaceOf s i d → ReaderGives s given room 14 d
+      Points row (map itemOf (l .entries)) 13 d → Wants row d → ReaderGives s given room 13 d
+  both : (l : Layout) {row : Row} {i d : ℕ} → layoutOf s ≡ accepted l → rowOf (l .head .kind) (specifierIn s l given) 0 ≡ accepted row →
+      Points row (map itemOf (l .entries)) 14 d → PlaceOf s i d → ReaderGives s given room 14 d
 
-pub data WriterGives (kind : ℕ) (id : D.Id) (specifier count room : ℕ) : (number detail : ℕ) → Type 0 where
-  type : WriterGives kind id specifier count room 3 0
-  id-octets : WriterGives kind id specifier count room 6 0
-  entries : 64 < count → WriterGives kind id specifier count room 10 0
-  table : WriterGives kind id specifier count room 1 0
-  entry : {d : ℕ} → d < count → WriterGives kind id specifier count room 16 d
-  too-long : (ps : List Parameter) → 4096 < octetsNeeded kind (id .count) ps → WriterGives kind id specifier count room 15 (octetsNeeded kind (id .count) ps)
-  no-row : WriterGives kind id specifier count room 11 0
-  again : {d : ℕ} → d < count → WriterGives kind id specifier count room 12 d
-  missing : {row : Row} {d : ℕ} → rowOf kind specifier 0 ≡ accepted row → Wants row d → WriterGives kind id specifier count room 13 d
-  both : {d : ℕ} → d < count → WriterGives kind id specifier count room 14 d
-  no-room : (ps : List Parameter) → room < octetsNeeded kind (id .count) ps → WriterGives kind id specifier count room 17 (octetsNeeded kind (id .count) ps)
+pub data WriterGives (kind : ℕ) (id : D.Id) (specifier count : ℕ) (table : List ℕ) (source : Octets) (room : ℕ) : (number detail : ℕ) → Type 0 where
+  no-type : (eqb kind 0xE9 || eqb kind 0xEA) ≡ false → WriterGives kind id specifier count table source room 3 0
+  no-id : idFits kind (id .count) ≡ false → WriterGives kind id specifier count table source room 6 0
+  too-many : 64 < count → WriterGives kind id specifier count table source room 10 0
+  no-table : length table < 4 * count → WriterGives kind id specifier count table source room 1 0
+  no-entry : {d : ℕ} → d < count → entryStands table source d ≡ false → WriterGives kind id specifier count table source room 16 d
+  too-long : (ps : List Parameter) → entriesFrom 0 count table source ≡ accepted ps → 4096 < octetsNeeded kind (id .count) ps →
+      WriterGives kind id specifier count table source room 15 (octetsNeeded kind (id .count) ps)
+  no-row : rowOf kind specifier 0 ≡ refused 11 0 → WriterGives kind id specifier count table source room 11 0
+  -- 12, 14: an entry below the count; 13: a number of the row
+  again : (ps : List Parameter) {row : Row} {d : ℕ} → entriesFrom 0 count table source ≡ accepted ps → rowOf kind specifier 0 ≡ accepted row →
+      Points row (itemsOf 0 ps) 12 d → d < count → WriterGives kind id specifier count table source room 12 d
+  missing : (ps : List Parameter) {row : Row} {d : ℕ} → entriesFrom 0 count table source ≡ accepted ps → rowOf kind specifier 0 ≡ accepted row →
+      Points row (itemsOf 0 ps) 13 d → Wants row d → WriterGives kind id specifier count table source room 13 d
+  both : (ps : List Parameter) {row : Row} {d : ℕ} → entriesFrom 0 count table source ≡ accepted ps → rowOf kind specifier 0 ≡ accepted row →
+      Points row (itemsOf 0 ps) 14 d → d < count → WriterGives kind id specifier count table source room 14 d
+  no-room : (ps : List Parameter) → entriesFrom 0 count table source ≡ accepted ps → room < octetsNeeded kind (id .count) ps →
+      WriterGives kind id specifier count table source room 17 (octetsNeeded kind (id .count) ps)
 
-pub Demand1 : Type 0
+unfoldable pub Demand1 : Type 0
 Demand1 =
     ((s : Octets) (given : ℕ) (t : List ℕ) (n d : ℕ) → AreOctets s → reading s given (length t) ≡ refused n d →
     ReaderGives s given (length t) n d × (tableAfter t (reading s given (length t)) ≡ t))
     × ((kind : ℕ) (id : D.Id) (specifier count : ℕ) (table : List ℕ) (source out : Octets) (n d : ℕ) →
     writing kind id specifier count table source (length out) ≡ refused n d →
-    WriterGives kind id specifier count (length out) n d × (outputAfter out (writing kind id specifier count table source (length out)) ≡ out))
+    WriterGives kind id specifier count table source (length out) n d × (outputAfter out (writing kind id specifier count table source (length out)) ≡ out))
 
 -- ---- demand 2: accepted is exactly what fits the layout and the operation's row
 
@@ -96,19 +109,19 @@ pub record Tells (given : ℕ) (s : Octets) (c : Component) (row : Row) (x : Sho
   pub named : x .named ≡ tally (names row) (map keyOf (parametersOf c))
   pub other : x .other ≡ tally (λ k. not (names row k)) (map keyOf (parametersOf c))
 
-pub Exactly : Type 0
+unfoldable pub Exactly : Type 0
 Exactly = (given room : ℕ) (s : Octets) → AreOctets s → 256 ≤ room →
     ((x : Shown) → reading s given room ≡ accepted x → (c : Component) × (row : Row) × Right given s c row × Tells given s c row x)
     × ((c : Component) (row : Row) → Right given s c row → (x : Shown) × (reading s given room ≡ accepted x) × Tells given s c row x)
 
 -- writing what was read returns the same octets
-pub ReadThenWrite : Type 0
+unfoldable pub ReadThenWrite : Type 0
 ReadThenWrite = (given : ℕ) (s : Octets) (t out : List ℕ) (x : Shown) → AreOctets s →
     reading s given (length t) ≡ accepted x → length s ≤ length out →
     writing (x .kind) (idOf (x .id)) (x .specifier) (length (x .entries)) (tableAfter t (accepted x)) s (length out) ≡ accepted s
 
 -- reading what was written returns the same type, ID octets, specifier, identifiers and contents
-pub WriteThenRead : Type 0
+unfoldable pub WriteThenRead : Type 0
 WriteThenRead = (kind : ℕ) (id : D.Id) (specifier count : ℕ) (t : List ℕ) (source : Octets) (room : ℕ) (s : Octets) → specifier < 256 →
     writing kind id specifier count t source room ≡ accepted s →
     (x : Shown) × (ps : List Parameter) × (reading s specifier 256 ≡ accepted x) × (x .kind ≡ kind) × (x .id ≡ idOctets id) × (x .specifier ≡ specifier)
@@ -141,7 +154,7 @@ abbrev pub with : Component → List Parameter → Component
 with (Invoke id specifier ps) qs = Invoke id specifier qs
 with (Result id ps) qs = Result id qs
 
-pub StaysTruthful : Type 0
+unfoldable pub StaysTruthful : Type 0
 StaysTruthful = (given room : ℕ) (c : Component) (qs : List Parameter) (s t : Octets) (row : Row) → 256 ≤ room →
     Laid c s → Laid (with c qs) t → length t ≤ 4096 → length qs ≤ 64 → rowOf (kindOf c) (specifierOf c given) 0 ≡ accepted row →
     (j : Joined row (parametersOf c) qs) → Truthful given s t c j (reading s given room) (reading t given room)

@@ -1,0 +1,122 @@
+-- What a writer is handed, as a component: what makes a given one again, and the one that is made.
+use Prim.Native.Nat.{ℕ, _*_, _≤_, _<_}
+use mathlib.Core.Path.{_≡_, refl, sym, _∙_}
+use mathlib.Core.Bool.{Bool, true, false, _||_}
+use mathlib.Core.List.{List, [], _∷_}
+use mathlib.Core.Logic.{_⊎_, inl, inr}
+use lib.ListN.{length, length-take}
+use lib.Dec.{leb, eqb}
+use borrow.Author.Tests.{le-leb, leb-true, eq-eqb, eqb-true}
+use native.Mathlib.Omega.{arith}
+use Rattle.element.specs.Octets.{Octets, if}
+use Rattle.element.specs.Answer.{accepted}
+use Rattle.component.specs.declared.Id as D
+use Rattle.component.specs.Layout.{Entry}
+use Rattle.component.specs.Grammar.{Parameter, Component, Invoke, Result, parametersOf, kindOf, identifierOf, specifierOf}
+use Rattle.component.specs.Shown.{Shows, Pairwise}
+use Rattle.component.specs.Composed.{composed}
+use Rattle.component.specs.Composable.{Composable, Typed, Identified}
+use Rattle.component.specs.Table.{idOf, tableWith}
+use Rattle.component.specs.Composing.{entriesFrom, octetsNeeded, idFits, idOctets, componentOf, entriesOf, octetsOf}
+use Rattle.component.proofs.Taken.{taken, passed}
+use Rattle.component.proofs.Sizes.{sized}
+use Rattle.component.proofs.Entries.{entries-stand, as-many, table-shown}
+
+-- ---- a component again
+id-again : (id : Octets) → length id ≤ 2 → idOctets (idOf id) ≡ id
+unfolding idOctets idOf
+id-again [] h = refl
+id-again (a ∷ []) h = refl
+id-again (a ∷ b ∷ []) h = refl
+id-again (a ∷ b ∷ c ∷ id) h = absurd (omega arith)
+
+again : (c : Component) → Typed c → (given : ℕ) → componentOf (kindOf c) (idOf (identifierOf c)) (specifierOf c given) (parametersOf c) ≡ c
+unfolding componentOf
+again (Invoke id specifier ps) h given = rw (id-again id (h .0))
+again (Result id ps) h given = rw (id-again id (omega arith))
+
+fitting : (c : Component) → Typed c → (eqb (kindOf c) 0xE9 || eqb (kindOf c) 0xEA ≡ true) × (idFits (kindOf c) (length (identifierOf c)) ≡ true)
+unfolding idFits
+fitting (Invoke id specifier ps) h = (refl, le-leb (length id) 2 (h .0))
+fitting (Result id ps) h = (refl, eq-eqb (length id) 1 h)
+
+module _ (c : Component) (h : Composable c) where
+  needed : octetsNeeded (kindOf c) (length (identifierOf c)) (parametersOf c) ≡ length (composed c)
+  needed = sym (sized c (omega arith))
+
+  pub entries-again : length (parametersOf c) ≤ 64 → {s : Octets} {es : List Entry} → Pairwise (Shows s) es (parametersOf c) → (t : List ℕ) →
+      entriesOf (kindOf c) (idOf (identifierOf c)) (length es) (tableWith es t) s ≡ accepted (parametersOf c)
+  unfolding entriesOf idOf
+  entries-again few {es = es} shows t =
+      let (a, b) = fitting c (h .typed) in
+      let (l, e) = table-shown shows (h .identified) t in
+      rw (
+        a,
+        b,
+        le-leb (length es) 64 (omega (arith, as-many shows)),
+        le-leb (4 * length es) (length (tableWith es t)) l,
+        e,
+        needed,
+        le-leb (length (composed c)) 4096 (h .size),
+      )
+
+  pub octets-again : (given room : ℕ) → length (composed c) ≤ room →
+      octetsOf (kindOf c) (idOf (identifierOf c)) (specifierOf c given) (parametersOf c) room ≡ accepted (composed c)
+  unfolding octetsOf idOf
+  octets-again given room k = rw (needed, le-leb (length (composed c)) room k, again c (h .typed) given)
+
+-- ---- the component made
+pub record Makes (kind : ℕ) (id : D.Id) (specifier : ℕ) (ps : List Parameter) (c : Component) : Type 0 where
+  pub kind-is : kindOf c ≡ kind
+  pub id-is : identifierOf c ≡ idOctets id
+  pub specifier-is : specifierOf c specifier ≡ specifier
+  pub parameters-are : parametersOf c ≡ ps
+  pub composable : Composable c
+
+abbrev Kinds : (kind count : ℕ) → Type 0
+Kinds kind count = ((kind ≡ 0xE9) × (count ≤ 2)) ⊎ ((kind ≡ 0xEA) × (count ≡ 1))
+
+kinds : (kind count : ℕ) → eqb kind 0xE9 || eqb kind 0xEA ≡ true → idFits kind count ≡ true → Kinds kind count
+unfolding idFits
+kinds kind count = go (eqb kind 0xE9) refl
+  where
+    go : (t : Bool) → eqb kind 0xE9 ≡ t → (t || eqb kind 0xEA) ≡ true → if t (leb count 2) (eqb count 1) ≡ true → Kinds kind count
+    go true e _ f = inl (eqb-true _ _ e, leb-true _ _ f)
+    go false e o f = inr (eqb-true _ _ o, eqb-true _ _ f)
+
+composable : (c : Component) → Typed c → Identified (parametersOf c) → {n : ℕ} → length (identifierOf c) ≡ n → octetsNeeded (kindOf c) n (parametersOf c) ≤ 4096 → Composable c
+composable c t i e h = let k = rw (← e) at h in record { typed = t; identified = i; size = omega (arith, sized c (omega arith)) }
+
+module _ (kind : ℕ) (id : D.Id) (specifier : ℕ) (ps : List Parameter) where
+  counted : id .count ≤ 2 → length (idOctets id) ≡ id .count
+  unfolding idOctets
+  counted h = simp length-take (omega arith)
+
+  made : Kinds kind (id .count) → specifier < 256 → Identified ps → octetsNeeded kind (id .count) ps ≤ 4096 → Makes kind id specifier ps (componentOf kind id specifier ps)
+  unfolding componentOf
+  made (inl k) h i z =
+      let c = composable (Invoke (idOctets id) specifier ps) (rw (counted (k .1)) (k .1, h)) i (counted (k .1)) (rw (k .0) at z) in
+      rw (k .0) (record { kind-is = refl; id-is = refl; specifier-is = refl; parameters-are = refl; composable = c })
+  made (inr k) h i z =
+      let l = counted (omega arith) in
+      let c = composable (Result (idOctets id) ps) (l ∙ k .1) i l (rw (k .0) at z) in
+      rw (k .0) (record { kind-is = refl; id-is = refl; specifier-is = refl; parameters-are = refl; composable = c })
+
+  pub makes : (count : ℕ) (t : List ℕ) (source : Octets) → specifier < 256 → entriesOf kind id count t source ≡ accepted ps →
+      Makes kind id specifier ps (componentOf kind id specifier ps) × (entriesFrom 0 count t source ≡ accepted ps) × (length ps ≤ 64)
+  unfolding entriesOf
+  makes count t source h e =
+      let (a, f) = passed (eqb kind 0xE9 || eqb kind 0xEA) 3 0 e in
+      let (b, g) = passed (idFits kind (id .count)) 6 0 f in
+      let (c, k) = passed (leb count 64) 10 0 g in
+      let (_, l) = passed (leb (4 * count) (length t)) 1 0 k in
+      let (qs, m, n) = taken (entriesFrom 0 count t source) l in
+      let (s, p) = passed (leb (octetsNeeded kind (id .count) qs) 4096) 15 (octetsNeeded kind (id .count) qs) n in
+      let q : qs ≡ ps = cc in
+      let d : entriesFrom 0 count t source ≡ accepted ps = cc in
+      let (i, v) = entries-stand t source 0 count d in
+      (made (kinds kind (id .count) a b) h i (leb-true _ _ (rw q at s)), d, omega (arith, leb-true count 64 c))
+
+  pub octets-are : (room : ℕ) {s : Octets} → octetsOf kind id specifier ps room ≡ accepted s → s ≡ composed (componentOf kind id specifier ps)
+  unfolding octetsOf
+  octets-are room e = let f = passed (leb (octetsNeeded kind (id .count) ps) room) 17 (octetsNeeded kind (id .count) ps) e .1 in cc

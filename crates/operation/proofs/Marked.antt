@@ -1,0 +1,72 @@
+-- Parameters as a row sees them, marked by their indices or by the places of the entries that show them.
+use Prim.Native.Nat.{ℕ, zero, suc, _<_}
+use mathlib.Core.Path.{_≡_, refl}
+use mathlib.Core.List.{List, [], _∷_, map, List·Memᴰ, List·Memᴰ·head, List·Memᴰ·tail}
+use mathlib.Core.Option.{some}
+use lib.ListN.{length, getElem?}
+use native.Mathlib.Omega.{arith}
+use Rattle.element.specs.Octets.{Octets}
+use Rattle.component.specs.Layout.{Entry}
+use Rattle.component.specs.Grammar.{Parameter}
+use Rattle.component.specs.Shown.{Shows, Pairwise, none, more}
+use Rattle.operation.specs.Row.{Row, Item, judge, countNamed, remark, pointed}
+use Rattle.operation.specs.Newcomers as N
+use Rattle.operation.specs.Reading.{itemOf}
+use Rattle.operation.specs.Demands.{keyOf, Joined, done, kept, newcomer, moved}
+use Rattle.operation.proofs.Marks.{marked, count-marked}
+use Rattle.operation.proofs.Places.{placeAt}
+
+-- the i-th is marked by `f i`
+pub marks : (ℕ → ℕ) → List Parameter → List Item
+marks f [] = []
+marks f (p ∷ ps) = record { is = keyOf p; mark = f 0 } ∷ marks (λ i. f (suc i)) ps
+
+abbrev pub indexed : List Parameter → List Item
+indexed = marks λ i. i
+
+remarked : (g f : ℕ → ℕ) (ps : List Parameter) → map (remark g) (marks f ps) ≡ marks (λ i. g (f i)) ps
+unfolding marks remark
+remarked g f [] = refl
+remarked g f (p ∷ ps) = rw (remarked g (λ i. f (suc i)) ps)
+
+module _ (row : Row) (f : ℕ → ℕ) (ps : List Parameter) where
+  pub judged : judge row (marks f ps) ≡ pointed f (judge row (indexed ps))
+  judged = rw (← remarked f (λ i. i) ps) (marked f row (indexed ps))
+
+  pub named : countNamed row (marks f ps) ≡ countNamed row (indexed ps)
+  named = rw (← remarked f (λ i. i) ps) (count-marked f row (indexed ps))
+
+index : (f : ℕ → ℕ) (ps : List Parameter) {x : Item} → List·Memᴰ x (marks f ps) → (i : ℕ) × (i < length ps) × (x .mark ≡ f i)
+unfolding marks
+index f (p ∷ ps) (List·Memᴰ·head e) = (0, omega arith, cc)
+index f (p ∷ ps) (List·Memᴰ·tail m) = let (i, h, e) = index (λ i. f (suc i)) ps m in (suc i, omega arith, e)
+
+pub inside : (ps : List Parameter) {x : Item} → List·Memᴰ x (indexed ps) → x .mark < length ps
+inside ps m = omega (arith, index (λ i. i) ps m)
+
+-- ---- the places of entries
+pub placed : (es : List Entry) (i : ℕ) → i < length es → (e : Entry) × (getElem? es i ≡ some e) × (e .place ≡ placeAt es i)
+unfolding placeAt
+placed [] i h = absurd (omega arith)
+placed (e ∷ es) zero h = (e, refl, refl)
+placed (e ∷ es) (suc i) h = placed es i (omega arith)
+
+pub items : {s : Octets} {es : List Entry} {ps : List Parameter} → Pairwise (Shows s) es ps → (map itemOf es ≡ marks (placeAt es) ps) × (length es ≡ length ps)
+unfolding itemOf marks placeAt
+items none = (refl, refl)
+items (more h w) = let (e, l) = items w in (rw (h .number, h .form, e), omega arith)
+
+-- ---- with newcomers
+module _ {row : Row} where
+  pub grown : (f : ℕ → ℕ) {ps qs : List Parameter} (j : Joined row ps qs) → N.Grown row (marks (λ i. f (moved j i)) ps) (marks f qs)
+  unfolding marks moved
+  grown f done = N.done
+  grown f (kept p j) = N.kept _ (grown (λ i. f (suc i)) j)
+  grown f (newcomer p u j) = N.newcomer _ u (grown (λ i. f (suc i)) j)
+
+  pub moved-inside : {ps qs : List Parameter} (j : Joined row ps qs) (i : ℕ) → i < length ps → moved j i < length qs
+  unfolding moved
+  moved-inside done i h = h
+  moved-inside (kept p j) zero h = omega arith
+  moved-inside (kept p j) (suc i) h = omega (arith, moved-inside j i (omega arith))
+  moved-inside (newcomer p u j) i h = omega (arith, moved-inside j i h)
