@@ -25,3 +25,5 @@ pub mod Sizes
 pub mod Entries
 pub mod Making
 pub mod Growing
+pub mod Outcomes
+pub mod Parent

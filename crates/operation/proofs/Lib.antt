@@ -18,3 +18,5 @@ pub mod Keys
 pub mod Demand1
 pub mod Demand2
 pub mod Demand3
+pub mod Outcomes
+pub mod DraftingErrors

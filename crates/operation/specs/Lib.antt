@@ -10,3 +10,4 @@ pub mod Writing
 pub mod Told
 pub mod Finishing
 pub mod Demands
+pub mod Charts
