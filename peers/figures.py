@@ -1,0 +1,148 @@
+"""Measures the figures of docs/PEERS.md and prints its tables."""
+
+import sys
+
+import charts
+import dissect
+import drafts
+import second
+import tcap
+
+EACH_ROW = 500
+SEED = 41
+READS = 20000
+READ_SEED = 7
+
+
+def print_table(heads, rows):
+    print("| " + " | ".join(heads) + " |")
+    print("|" + "---|" * len(heads))
+    for row in rows:
+        print("| " + " | ".join(f"{one:,}" if isinstance(one, int) else one for one in row) + " |")
+
+
+def short(complaint):
+    return " ".join(complaint.split(". Contact")[0].split()).removesuffix(" (Exception occurred)")
+
+
+def print_charts(folder, program):
+    answers = second.listing(program, [(octets, handed) for _, octets, _, handed, _ in charts.CHARTS])
+    seen = dissect.dissect(folder, [(octets, before) for _, octets, before, _, _ in charts.CHARTS])
+    rows = []
+    for (name, _, _, _, count), (answer, detail, named, other), one in zip(charts.CHARTS, answers, seen):
+        ours = f"{answer}, detail {detail}" if answer else f"accepted, {named} named" + f", {other} other" * (other > 0)
+        visible = [shown for shown in one.shown if shown.name]
+        said = [shown.text for shown in visible if "<MISSING>" in shown.text]
+        said += [short(text) for text in dict.fromkeys(one.complaints)]
+        rows.append((name, ours, f"{len(visible)} of {count}", "; ".join(f"`{text}`" for text in said) or "nothing"))
+    print_table(["Component", "Roadquill", f"Shown by tshark {dissect.version()}", "What tshark says"], rows)
+
+
+def members(one):
+    return one if isinstance(one, tuple) else (one,)
+
+
+def zero_draft(dice, number, row):
+    """The row's mandatory parameters with `number` first and of no octets."""
+    kind, specifier, _, must, _ = row
+    numbers = [members(one)[0] for one in must if number not in members(one)]
+    parts = [tcap.element(tcap.identifier(one), drafts.contents(dice, one)) for one in numbers]
+    return tcap.component(kind, b"\x05", specifier, tcap.element(tcap.identifier(number), b"") + b"".join(parts))
+
+
+def zero_outcome(octets, seen):
+    if not seen.operation:
+        return "nothing of the set is dissected"
+    if len(seen.shown) < len(tcap.walk(octets)):
+        return "it stops there, `Malformed Packet`, and the parameters behind are lost"
+    if seen.complaints:
+        return "the parameters behind are shown, its length is called not valid"
+    return "the parameters behind are shown, no complaint"
+
+
+def print_zero(folder, program):
+    """Each registered parameter with no octets, in the first row that names it."""
+    dice, groups = drafts.Dice(SEED), {}
+    numbers = sorted(drafts.NAMES)
+    rows = [next(row for row in drafts.ROWS if any(number in members(one) for one in row[3] + row[4]))
+            for number in numbers]
+    cases = [(zero_draft(dice, number, row), row[1]) for number, row in zip(numbers, rows)]
+    assert all(answer[0] == 0 for answer in second.listing(program, cases))
+    for number, (octets, _), seen in zip(numbers, cases, dissect.dissect(folder, cases)):
+        groups.setdefault(zero_outcome(octets, seen), []).append(str(number))
+    lines = [(outcome, len(group), " ".join(group)) for outcome, group in groups.items()]
+    print_table(["tshark, given a parameter of no octets", "Parameters", "Their numbers"], lines)
+
+
+def compare(octets, seen):
+    """Counts: all; equal in the four numbers; equal in number, form and place; not shown; and shown but not ours."""
+    ours = tcap.walk(octets)
+    theirs = [(one.number, one.form, one.start, one.length) for one in seen.shown]
+    equal = [one[1:] for one in ours if one[1:] in theirs]
+    placed = [one for one in ours if one[1:] not in theirs and one[:3] in seen.unknown]
+    extra = [at for at, one in enumerate(theirs) if one not in equal]
+    # What is not ours stands behind a constructor form that tshark has opened.
+    assert all(at > 0 and (theirs[at - 1][1] == 1 or at - 1 in extra) for at in extra)
+    assert extra or theirs == equal
+    return len(ours), len(equal), len(placed), len(ours) - len(equal) - len(placed), len(extra)
+
+
+def in_its_field(one):
+    """The visible field has the register's name and our start and length."""
+    return one.name == drafts.NAMES[one.number] and one.span == (one.start, one.length)
+
+
+def measure_row(folder, program, cases):
+    """Sums of all, equal, placed and not shown; and what tshark made of each component."""
+    for (octets, _), answer in zip(cases, second.listing(program, cases)):
+        assert answer[0] == 0 and answer[2] + answer[3] == len(tcap.walk(octets))
+    seen = dissect.dissect(folder, cases)
+    counts = [compare(octets, one) for (octets, _), one in zip(cases, seen)]
+    assert not any(one[4] for one in counts)
+    return [sum(one[at] for one in counts) for at in range(4)], seen
+
+
+def print_rows(folder, program):
+    """A line for each operation row: named parameters only, then with others among them; and the sums."""
+    dice, lines = drafts.Dice(SEED), []
+    for row in drafts.ROWS:
+        named, seen = measure_row(folder, program, [(drafts.named_only(dice, row), row[1]) for _ in range(EACH_ROW)])
+        assert all(in_its_field(shown) for one in seen for shown in one.shown)
+        quiet = sum(not one.complaints for one in seen)
+        others, _ = measure_row(folder, program, [(drafts.with_others(dice, row), row[1]) for _ in range(EACH_ROW)])
+        kind = "INVOKE" if row[0] == tcap.INVOKE else "RESULT"
+        lines.append([f"{row[2]} {kind}, {row[1]}", *named, quiet, *others])
+    total = [sum(one[at] for one in lines) for at in range(1, len(lines[0]))]
+    heads = ["Row", "Named", "Equal", "Place", "None", "Quiet", "With others", "Equal", "Place", "None"]
+    print_table(heads, lines + [[f"all, {2 * EACH_ROW * len(drafts.ROWS):,} components", *total]])
+
+
+def print_any_contents(folder, program):
+    found = second.accepted(program, READS, READ_SEED)
+    walked = sum([number for one in tcap.walk(octets) for number in one[1:]] == table for octets, _, table in found)
+    seen = dissect.dissect(folder, [(octets, specifier) for octets, specifier, _ in found])
+    counts = [compare(octets, one) for (octets, _, _), one in zip(found, seen)]
+    placed = sum(one[2] > 0 and one[3] == 0 for one in counts)
+    undissected = sum(count[3] for (octets, specifier, _), count in zip(found, counts)
+                      if octets[0] == tcap.RESULT and specifier in (26, 101))
+    print_table(["The second program's own components", "Count"], [
+        ("accepted", len(found)),
+        ("accepted, and the script's walk gives the second program's table", walked),
+        ("tshark shows every parameter with our four numbers", sum(one[0] == one[1] for one in counts)),
+        ("it shows some by number, form and place only, and loses none", placed),
+        ("it loses some", sum(one[3] > 0 for one in counts)),
+        ("it shows as a parameter what stands inside a constructor form", sum(one[4] > 0 for one in counts)),
+        ("parameters in the accepted components", sum(one[0] for one in counts)),
+        ("parameters that tshark loses", sum(one[3] for one in counts)),
+        ("of these in FlashRequest and InterSystemSMSPage RESULTs", undissected),
+    ])
+
+
+def main(folder, program):
+    print_charts(folder, program)
+    print_zero(folder, program)
+    print_rows(folder, program)
+    print_any_contents(folder, program)
+
+
+main(*sys.argv[1:])

@@ -1,0 +1,34 @@
+"""The independent second program: its listing of components, and its stream of read cases."""
+
+import struct
+import subprocess
+
+
+def listing(program, cases):
+    """Answer, detail, named and other count of each (component, specifier)."""
+    fields = []
+    for octets, specifier in cases:
+        fields.append(struct.pack(">BHB", 2, 1, specifier or 0))
+        fields.append(struct.pack(">BH", 1, len(octets)) + octets)
+    run = subprocess.run([program, "list"], input=b"".join(fields), capture_output=True, check=True)
+    lines = run.stdout.decode().splitlines()[1:]
+    assert len(lines) == len(cases)
+    return [tuple(int(word) for word in line.split()[1:]) for line in lines]
+
+
+def accepted(program, reads, seed):
+    """Component, specifier and the table's numbers of each accepted reading among `reads` cases."""
+    run = subprocess.run([program, "cases", str(reads), "0", str(seed)], capture_output=True, check=True)
+    stream, at, found = run.stdout, 0, []
+    for _ in range(reads):
+        kind, _, count = struct.unpack_from("<BBI", stream, at)
+        assert kind == ord("R")
+        octets = stream[at + 6:at + 6 + count]
+        at += 6 + count
+        _, packed, count = struct.unpack_from("<IQI", stream, at)
+        numbers = struct.unpack_from(f"<{count}H", stream, at + 16)
+        at += 16 + 2 * count
+        if packed & 0xFF == 0:
+            found.append((octets, packed >> 40 & 0xFF, list(numbers)))
+    assert stream[at:] == b"E"
+    return found

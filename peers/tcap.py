@@ -1,0 +1,86 @@
+"""Octets: identifiers, lengths, components, packages, pcap files, and a walk over an accepted component."""
+
+import struct
+
+INVOKE = 0xE9
+RESULT = 0xEA
+LINK_TYPE = 147
+
+
+def length_field(count):
+    if count < 128:
+        return bytes([count])
+    if count < 256:
+        return bytes([0x81, count])
+    return bytes([0x82]) + count.to_bytes(2, "big")
+
+
+def identifier(number, form=0):
+    first = 0x80 | form << 5
+    if number < 31:
+        return bytes([first | number])
+    if number < 128:
+        return bytes([first | 31, number])
+    return bytes([first | 31, 0x80 | number >> 7, number & 0x7F])
+
+
+def element(octets, contents):
+    return octets + length_field(len(contents)) + contents
+
+
+def component(kind, id_octets, specifier, parameters):
+    """`parameters` is the finished contents of the set F2."""
+    code = bytes([0xD1, 2, 9, specifier]) if kind == INVOKE else b""
+    body = element(b"\xCF", id_octets) + code + element(b"\xF2", parameters)
+    return element(bytes([kind]), body)
+
+
+def package(octets, transaction):
+    """QUERY WITH PERMISSION, or RESPONSE for a RESULT. The component ends where the package ends."""
+    kind = b"\xE4" if octets[0] == RESULT else b"\xE2"
+    number = element(b"\xC7", transaction.to_bytes(4, "big"))
+    return element(kind, number + element(b"\xE8", octets))
+
+
+def write_pcap(path, frames):
+    with open(path, "wb") as out:
+        out.write(struct.pack("<IHHiIII", 0xA1B2C3D4, 2, 4, 0, 0, 65535, LINK_TYPE))
+        for second, frame in enumerate(frames):
+            out.write(struct.pack("<IIII", second, 0, len(frame), len(frame)) + frame)
+
+
+def read_length(octets, at):
+    first = octets[at]
+    if first < 0x80:
+        return first, at + 1
+    behind = at + 1 + (first & 0x7F)
+    return int.from_bytes(octets[at + 1:behind], "big"), behind
+
+
+def read_identifier(octets, at):
+    first = octets[at]
+    number, form, at = first & 31, first >> 5 & 1, at + 1
+    if number == 31:
+        number = 0
+        while True:
+            number = number << 7 | octets[at] & 0x7F
+            at += 1
+            if octets[at - 1] < 0x80:
+                break
+    return number, form, at
+
+
+def walk(octets):
+    """Place, number, form, start and length of each parameter. It checks nothing: the component is accepted."""
+    _, at = read_length(octets, 1)
+    for _ in range(2 if octets[0] == INVOKE else 1):
+        length, start = read_length(octets, at + 1)
+        at = start + length
+    _, at = read_length(octets, at + 1)
+    entries = []
+    while at < len(octets):
+        number, form, field = read_identifier(octets, at)
+        length, start = read_length(octets, field)
+        entries.append((at, number, form, start, length))
+        at = start + length
+    return entries
