@@ -12,9 +12,12 @@ use Rattle.component.specs.Layout.{contents}
 pub same-part : (parent behind other : Octets) (from : ℕ) → from ≤ length parent →
     between from (length parent) (parent ++ behind) ≡ between from (length parent) (parent ++ other)
 same-part parent behind other from h =
-    rw (drop-append-le from parent behind h, drop-append-le from parent other h,
-    take-append-le (length parent - from) (drop from parent) behind (omega (arith, length-drop from parent)),
-    take-append-le (length parent - from) (drop from parent) other (omega (arith, length-drop from parent)))
+    rw (
+      drop-append-le from parent behind h,
+      drop-append-le from parent other h,
+      take-append-le (length parent - from) (drop from parent) behind (omega (arith, length-drop from parent)),
+      take-append-le (length parent - from) (drop from parent) other (omega (arith, length-drop from parent)),
+    )
 
 pub contents-of-the-parent : (parent behind other : Octets) (at from : ℕ) → from ≤ length parent →
     contents (parent ++ behind) at from (length parent) ≡ contents (parent ++ other) at from (length parent)

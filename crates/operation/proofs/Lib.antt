@@ -20,3 +20,4 @@ pub mod Demand2
 pub mod Demand3
 pub mod Outcomes
 pub mod DraftingErrors
+pub mod Counts

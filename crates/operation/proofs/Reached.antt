@@ -30,7 +30,7 @@ use Rattle.operation.proofs.Readings.{either-row, shownBy, reads, no-ro
 use Rattle.operation.proofs.Places.{indexed, placeAt, sheet-items, placed-items, sheet-place}
 
 -- ---- counts and marks of a run
-all-counted : (row : Row) (xs : List Item) → countNamed row xs + countOther row xs ≡ length xs
+pub all-counted : (row : Row) (xs : List Item) → countNamed row xs + countOther row xs ≡ length xs
 unfolding countNamed countOther
 all-counted row [] = refl
 all-counted row (x ∷ xs) = go (named row (x .is)) (all-counted row xs)

@@ -1,0 +1,434 @@
+/*
+ * Calls one function on one component, so many times: what ./bench measures.
+ *
+ *   caller count FUNCTION CASE ROUNDS [FILE]   so many rounds, and nothing else
+ *   caller marked FUNCTION CASE [FILE]         a round between two calls of `mark`, after one that warms up
+ *   caller time FUNCTION CASE [FILE]           nanoseconds a call
+ *   caller size CASE [FILE]                    octets, parameters, components
+ *   caller stack FUNCTION CASE                 how deep the stack was touched, in octets
+ *
+ * FUNCTION is read, write, plain or none. CASE is a name from `make`, or `mixed`:
+ * the reads of a stream of the second program, 7 accepted for 3 refused, and
+ * for the writer its writes. No buffer is cleared between two calls.
+ */
+#define _POSIX_C_SOURCE 199309L
+#include "roadquill.h"
+
+#include <stdio.h>
+#include <stdlib.h>
+#include <string.h>
+#include <time.h>
+
+extern uint64_t plain_read(const uint8_t *component, size_t octets, uint8_t specifier,
+                           uint16_t *table, size_t numbers);
+
+#define MOST 2000
+
+/* A call: a reading of `octets`, and the writing that goes with it. */
+struct call {
+    const uint8_t *octets;
+    size_t count;
+    uint8_t specifier;
+    uint8_t head[5];
+    size_t entries;
+    const uint16_t *table;
+    size_t numbers;
+    const uint8_t *source;
+    size_t source_octets;
+    size_t output_octets;
+};
+
+static struct call calls[MOST];
+static size_t call_count;
+static uint16_t table[4096];
+static uint8_t output[16384];
+static volatile uint64_t sink;
+
+void mark(void);
+
+static void stop(const char *why)
+{
+    fprintf(stderr, "caller: %s\n", why);
+    exit(2);
+}
+
+/* ---- components */
+
+static uint8_t made[8192];
+static size_t made_count;
+
+static void put(unsigned octet)
+{
+    made[made_count++] = (uint8_t)octet;
+}
+
+static size_t field(size_t length)
+{
+    return length < 0x80 ? 1 : length < 0x100 ? 2 : 3;
+}
+
+static void put_length(size_t length)
+{
+    if (length >= 0x100) {
+        put(0x82);
+        put((unsigned)(length >> 8));
+    } else if (length >= 0x80) {
+        put(0x81);
+    }
+    put((unsigned)(length & 0xFF));
+}
+
+static size_t identifier_size(unsigned number)
+{
+    return number < 31 ? 1 : number < 128 ? 2 : 3;
+}
+
+static void put_identifier(unsigned number)
+{
+    put(0x80 | (number < 31 ? number : 31));
+    if (number >= 128)
+        put(0x80 | number >> 7);
+    if (number >= 31)
+        put(number & 0x7F);
+}
+
+/* A component of `total` octets (0: as many as it takes) with these numbers,
+ * each with `each` octets of contents; what is left over to `total` goes to
+ * the first parameters, one octet more each, or to the last. */
+static void component(unsigned type, unsigned specifier, const unsigned *numbers, size_t count,
+                      size_t each, size_t total)
+{
+    size_t lengths[64], set = 0, body, i, extra = 0;
+
+    for (;;) {
+        set = 0;
+        for (i = 0; i < count; i++) {
+            lengths[i] = each + extra / count + (i < extra % count);
+            set += identifier_size(numbers[i]) + field(lengths[i]) + lengths[i];
+        }
+        body = 3 + (type == ROADQUILL_INVOKE ? 4 : 0) + 1 + field(set) + set;
+        if (total == 0 || 1 + field(body) + body >= total)
+            break;
+        extra++;
+    }
+    if (total != 0 && 1 + field(body) + body != total)
+        stop("no component of that size");
+    made_count = 0;
+    put(type);
+    put_length(body);
+    put(0xCF), put(1), put(5);
+    if (type == ROADQUILL_INVOKE)
+        put(0xD1), put(2), put(9), put(specifier);
+    put(0xF2);
+    put_length(set);
+    for (i = 0; i < count; i++) {
+        put_identifier(numbers[i]);
+        put_length(lengths[i]);
+        memset(made + made_count, (int)(i & 0x7F), lengths[i]);
+        made_count += lengths[i];
+    }
+}
+
+/* Parameters that a row wants, then `fill`, or where it is 0 numbers that no row names. */
+static size_t numbers_of(unsigned *numbers, const unsigned *wanted, size_t wanted_count, size_t count,
+                         unsigned fill)
+{
+    size_t i;
+
+    for (i = 0; i < count; i++)
+        numbers[i] = i < wanted_count ? wanted[i] : fill != 0 ? fill : 40 + (unsigned)i;
+    return count;
+}
+
+static void make(const char *name)
+{
+    static const unsigned back[] = { 5, 6, 8, 2, 3, 1 };
+    static const unsigned location[] = { 1, 21, 22 };
+    static const unsigned page[] = { 105, 153 };
+    unsigned numbers[64];
+    size_t count;
+
+    if (strcmp(name, "chart-A") == 0) {
+        static const uint8_t chart[] = {
+            0xE9, 0x1E, 0xCF, 0x01, 0x05, 0xD1, 0x02, 0x09, 0x04, 0xF2, 0x15,
+            0x85, 0x00, 0x86, 0x02, 0x01, 0x07, 0x88, 0x05, 0x21, 0x43, 0x65, 0x87, 0x09,
+            0x82, 0x02, 0x00, 0x11, 0x83, 0x02, 0x00, 0x12
+        };
+        memcpy(made, chart, sizeof chart);
+        made_count = sizeof chart;
+    } else if (strcmp(name, "272-octets") == 0) {
+        count = numbers_of(numbers, back, 6, 20, 0);
+        component(ROADQUILL_INVOKE, 4, numbers, count, 0, 272);
+    } else if (strcmp(name, "4096-octets") == 0) {
+        count = numbers_of(numbers, back, 6, 64, 0);
+        component(ROADQUILL_INVOKE, 4, numbers, count, 0, 4096);
+    } else if (strcmp(name, "61-digits") == 0) {
+        count = numbers_of(numbers, location, 3, 64, 4);
+        component(ROADQUILL_INVOKE, 15, numbers, count, 3, 0);
+    } else if (name[0] == 'p') {
+        /* so many parameters of three octets, InterSystemSMSPage RESULT */
+        count = numbers_of(numbers, page, 2, (size_t)atoi(name + 1), 0);
+        component(ROADQUILL_RESULT, 101, numbers, count, 3, 0);
+    } else if (name[0] == 'o') {
+        /* so many octets, 16 parameters, InterSystemSMSPage RESULT */
+        count = numbers_of(numbers, page, 2, 16, 0);
+        component(ROADQUILL_RESULT, 101, numbers, count, 0, (size_t)atoi(name + 1));
+    } else {
+        stop("no such case");
+    }
+}
+
+/* The writing that returns the component: what the reader shows of it. */
+static void add_component(const char *name)
+{
+    static uint16_t entries[ROADQUILL_NUMBERS];
+    struct call *c = &calls[call_count++];
+    uint64_t got;
+
+    make(name);
+    c->octets = made;
+    c->count = made_count;
+    c->specifier = 101;
+    got = roadquill_read(made, made_count, c->specifier, entries, ROADQUILL_NUMBERS);
+    if (roadquill_answer(got) != ROADQUILL_ACCEPTED)
+        stop("a case is not accepted");
+    if (got != plain_read(made, made_count, c->specifier, table, ROADQUILL_NUMBERS))
+        stop("the two readers differ");
+    c->head[0] = roadquill_type(got);
+    c->head[1] = roadquill_id_count(got);
+    c->head[2] = roadquill_id_first(got);
+    c->head[3] = roadquill_id_second(got);
+    c->head[4] = roadquill_specifier(got);
+    c->entries = roadquill_all(got);
+    c->table = entries;
+    c->numbers = ROADQUILL_NUMBERS;
+    c->source = made;
+    c->source_octets = made_count;
+    c->output_octets = sizeof output;
+}
+
+/* ---- the stream of the second program */
+
+static uint8_t *stream;
+static size_t stream_octets, stream_at;
+
+static const uint8_t *take(size_t count)
+{
+    const uint8_t *place = stream + stream_at;
+
+    if (count > stream_octets - stream_at)
+        stop("the stream is cut");
+    stream_at += count;
+    return place;
+}
+
+static uint64_t take_number(size_t count)
+{
+    const uint8_t *place = take(count);
+    uint64_t number = 0;
+
+    while (count-- > 0)
+        number = number << 8 | place[count];
+    return number;
+}
+
+/* Whether one more of this answer keeps 7 accepted for 3 refused; a table too short is left out. */
+static int wants(size_t *accepted, size_t *refused, unsigned answer)
+{
+    if (answer == ROADQUILL_TABLE)
+        return 0;
+    if (answer != ROADQUILL_ACCEPTED)
+        return 7 * *refused < 3 * *accepted && ++*refused;
+    return ++*accepted;
+}
+
+static void add_stream(const char *file, int writes)
+{
+    FILE *f = fopen(file, "rb");
+    size_t room = 1 << 24, accepted = 0, refused = 0;
+
+    stream = malloc(room);
+    if (f == NULL || stream == NULL)
+        stop("no stream");
+    stream_octets = fread(stream, 1, room, f);
+    if (stream_octets == room)
+        stop("the stream is too long");
+    fclose(f);
+    for (;;) {
+        uint64_t kind = take_number(1);
+        struct call c;
+
+        memset(&c, 0, sizeof c);
+        if (kind == 'E')
+            break;
+        if (kind == 'R') {
+            uint64_t answer;
+
+            c.specifier = (uint8_t)take_number(1);
+            c.count = take_number(4);
+            c.octets = take(c.count);
+            c.numbers = take_number(4);
+            answer = take_number(8);
+            take(2 * take_number(4));
+            if (!writes && call_count < MOST && c.count <= 4200
+                && wants(&accepted, &refused, (unsigned)(answer & 0xFF)))
+                calls[call_count++] = c;
+        } else {
+            uint64_t answer;
+            size_t i;
+            uint16_t *numbers;
+
+            memcpy(c.head, take(5), 5);
+            c.entries = take_number(8);
+            c.numbers = take_number(4);
+            numbers = malloc(2 * c.numbers + 2);
+            if (numbers == NULL)
+                stop("no memory");
+            for (i = 0; i < c.numbers; i++)
+                numbers[i] = (uint16_t)take_number(2);
+            c.table = numbers;
+            c.source_octets = take_number(4);
+            c.source = take(c.source_octets);
+            c.output_octets = take_number(4);
+            answer = take_number(8);
+            take(take_number(4));
+            if (writes && call_count < MOST && c.output_octets <= sizeof output
+                && wants(&accepted, &refused, (unsigned)(answer & 0xFF)))
+                calls[call_count++] = c;
+        }
+    }
+}
+
+/* ---- calls */
+
+static uint64_t call(char function, const struct call *c)
+{
+    switch (function) {
+    case 'r':
+        return roadquill_read(c->octets, c->count, c->specifier, table, ROADQUILL_NUMBERS);
+    case 'w':
+        return roadquill_write(c->head[0], c->head[1], c->head[2], c->head[3], c->head[4], c->entries,
+                               c->table, c->numbers, c->source, c->source_octets, output,
+                               c->output_octets);
+    case 'p':
+        return plain_read(c->octets, c->count, c->specifier, table, ROADQUILL_NUMBERS);
+    default:
+        return 0;
+    }
+}
+
+static void rounds(char function, unsigned long count)
+{
+    size_t i;
+
+    while (count-- > 0)
+        for (i = 0; i < call_count; i++)
+            sink += call(function, &calls[i]);
+}
+
+/* What a trace of the run shows where the round that counts begins and ends. */
+__attribute__((noinline)) void mark(void)
+{
+    sink++;
+}
+
+static double seconds(void)
+{
+    struct timespec now;
+
+    clock_gettime(CLOCK_MONOTONIC, &now);
+    return (double)now.tv_sec + (double)now.tv_nsec / 1e9;
+}
+
+/* The best of several runs of some milliseconds. */
+static double nanoseconds(char function)
+{
+    unsigned long count = 1;
+    double best = 1e99;
+    int i;
+
+    for (;;) {
+        double start = seconds();
+
+        rounds(function, count);
+        if (seconds() - start > 0.02)
+            break;
+        count *= 2;
+    }
+    for (i = 0; i < 15; i++) {
+        double start = seconds(), took;
+
+        rounds(function, count);
+        took = (seconds() - start) / (double)count / (double)call_count * 1e9;
+        if (took < best)
+            best = took;
+    }
+    return best;
+}
+
+/* ---- the stack */
+
+#define PAINTED 32768
+
+static uintptr_t bottom;
+
+static __attribute__((noinline)) void paint(void)
+{
+    volatile uint8_t room[PAINTED];
+    size_t i;
+
+    for (i = 0; i < PAINTED; i++)
+        room[i] = 0xC5;
+    bottom = (uintptr_t)room;
+}
+
+/* How far below this frame the paint is gone. */
+static __attribute__((noinline)) size_t touched(uintptr_t top)
+{
+    const volatile uint8_t *place = (const volatile uint8_t *)bottom;
+
+    while ((uintptr_t)place < top && *place == 0xC5)
+        place++;
+    return (size_t)(top - (uintptr_t)place);
+}
+
+static __attribute__((noinline)) size_t stack(char function)
+{
+    uintptr_t top = (uintptr_t)__builtin_frame_address(0);
+
+    paint();
+    sink += call(function, &calls[0]);
+    return touched(top);
+}
+
+int main(int count, char **words)
+{
+    const char *what = count > 1 ? words[1] : "";
+    int sized = strcmp(what, "size") == 0;
+    int at = sized ? 2 : 3;
+    char function = count > 2 && !sized ? words[2][0] : 'r';
+    const char *name = count > at ? words[at] : "";
+    unsigned long times = strcmp(what, "count") == 0 && count > at + 1 ? strtoul(words[++at], NULL, 10) : 0;
+
+    if (strcmp(name, "mixed") == 0)
+        add_stream(count > at + 1 ? words[at + 1] : "", function == 'w');
+    else
+        add_component(name);
+    if (strcmp(what, "count") == 0) {
+        rounds(function, times);
+    } else if (strcmp(what, "marked") == 0) {
+        rounds(function, 1);
+        mark();
+        rounds(function, 1);
+        mark();
+    } else if (strcmp(what, "time") == 0) {
+        printf("%.1f\n", nanoseconds(function));
+    } else if (sized) {
+        printf("%zu %zu %zu\n", calls[0].count, calls[0].entries, call_count);
+    } else if (strcmp(what, "stack") == 0) {
+        printf("%zu\n", stack(function));
+    } else {
+        stop("no such word");
+    }
+    return 0;
+}

@@ -1,0 +1,310 @@
+/*
+ * A plain reader of one component: structure from left to right, then the
+ * row of the operation. Numbers and details are those of the scope paper.
+ *
+ * Packed result: octet 0 is the answer. Refused: octets 1 to 4 the detail.
+ * Accepted: octets 1 to 7 are type, count of ID octets, first and second ID
+ * octet (0 where absent), specifier, count of all, count of named.
+ */
+#include <stddef.h>
+#include <stdint.h>
+
+#define INVOKE 0xE9
+#define RESULT 0xEA
+
+#define MAX_OCTETS 4096
+#define MAX_PARAMETERS 64
+#define MIN_NUMBERS 256
+
+#define DIGITS 4
+
+/* A row: `named` holds first the parameters that must occur, in order, then
+ * the others. Of a choice the first member stands among those that must
+ * occur, and the second may occur instead of it. */
+struct row {
+    uint8_t type;
+    uint8_t specifier;
+    uint8_t must_count;
+    uint8_t named_count;
+    uint16_t named[8];
+    uint16_t choice_first;  /* 0: no choice */
+    uint16_t choice_second;
+};
+
+static const struct row rows[] = {
+    { INVOKE, 4, 5, 6, { 5, 6, 8, 2, 3, 1 }, 0, 0 },
+    { RESULT, 4, 1, 1, { 5 }, 0, 0 },
+    { INVOKE, 13, 5, 8, { 9, 8, 21, 17, 22, 242, 32, 123 }, 8, 242 },
+    { RESULT, 13, 1, 1, { 22 }, 0, 0 },
+    { RESULT, 14, 0, 0, { 0 }, 0, 0 },
+    { INVOKE, 15, 4, 6, { 1, 4, 21, 22, 32, 123 }, 0, 0 },
+    { RESULT, 26, 0, 0, { 0 }, 0, 0 },
+    { INVOKE, 32, 3, 7, { 1, 9, 8, 21, 22, 32, 242 }, 0, 0 },
+    { INVOKE, 37, 3, 4, { 1, 6, 2, 242 }, 0, 0 },
+    { RESULT, 64, 0, 1, { 4 }, 0, 0 },
+    { INVOKE, 101, 2, 5, { 105, 116, 8, 9, 242 }, 0, 0 },
+    { RESULT, 101, 0, 2, { 105, 153 }, 0, 0 },
+};
+
+struct parameter {
+    uint16_t number;
+    uint16_t constructor;
+    uint16_t start;
+    uint16_t length;
+    uint16_t place;
+};
+
+struct reading {
+    const uint8_t *octets;
+    uint64_t refusal;  /* packed, 0 while there is none */
+    uint8_t type;
+    uint8_t id_count;
+    uint8_t id[2];
+    uint8_t specifier;
+    size_t specifier_place;
+    size_t count;
+    size_t named;
+    struct parameter list[MAX_PARAMETERS];
+};
+
+static int refuse(struct reading *r, unsigned number, size_t detail)
+{
+    r->refusal = number | (uint64_t)detail << 8;
+    return 0;
+}
+
+/* Reads the length field at *at, which may not pass `end`, and checks that
+ * the contents of the element at `place` end within the parent. */
+static int read_length(struct reading *r, size_t place, size_t *at, size_t end, size_t *length)
+{
+    size_t field = *at;
+    const uint8_t *p = r->octets + field;
+    size_t left = end - field;
+
+    if (left == 0)
+        return refuse(r, 4, field);
+    if (p[0] < 0x80) {
+        *length = p[0];
+        *at = field + 1;
+    } else if (p[0] == 0x81) {
+        if (left < 2 || p[1] < 0x80)
+            return refuse(r, 4, field);
+        *length = p[1];
+        *at = field + 2;
+    } else if (p[0] == 0x82) {
+        if (left < 3 || p[1] == 0)
+            return refuse(r, 4, field);
+        *length = (size_t)p[1] << 8 | p[2];
+        *at = field + 3;
+    } else {
+        return refuse(r, 4, field);
+    }
+    if (*length > end - *at)
+        return refuse(r, 5, place);
+    return 1;
+}
+
+/* The element at *at must begin with this identifier; `number` is the
+ * refusal where it does not. Leaves *at at the contents. */
+static int read_element(struct reading *r, uint8_t identifier, unsigned number,
+                        size_t *at, size_t end, size_t *length)
+{
+    size_t place = *at;
+
+    if (place == end)
+        return refuse(r, 5, place);
+    if (r->octets[place] != identifier)
+        return refuse(r, number, place);
+    *at = place + 1;
+    return read_length(r, place, at, end, length);
+}
+
+static int read_id(struct reading *r, size_t *at, size_t end)
+{
+    size_t place = *at;
+    size_t length;
+
+    if (!read_element(r, 0xCF, 6, at, end, &length))
+        return 0;
+    if (length > 2 || (r->type == RESULT && length != 1))
+        return refuse(r, 6, place);
+    r->id_count = (uint8_t)length;
+    r->id[0] = length > 0 ? r->octets[*at] : 0;
+    r->id[1] = length > 1 ? r->octets[*at + 1] : 0;
+    *at += length;
+    return 1;
+}
+
+static int read_operation(struct reading *r, size_t *at, size_t end)
+{
+    size_t place = *at;
+    size_t length;
+
+    if (!read_element(r, 0xD1, 7, at, end, &length))
+        return 0;
+    if (length != 2 || r->octets[*at] != 9)
+        return refuse(r, 7, place);
+    r->specifier_place = *at + 1;
+    r->specifier = r->octets[*at + 1];
+    *at += 2;
+    return 1;
+}
+
+/* Reads a parameter identifier and leaves *at behind it. */
+static int read_identifier(struct reading *r, size_t *at, size_t end, struct parameter *one)
+{
+    const uint8_t *octets = r->octets;
+    size_t place = *at;
+    size_t next = place + 1;
+    unsigned number = octets[place] & 0x1F;
+
+    if ((octets[place] & 0xC0) != 0x80)
+        return refuse(r, 9, place);
+    one->constructor = (octets[place] & 0x20) != 0;
+    if (number == 0x1F) {
+        if (next == end || octets[next] == 0x80 || octets[next] < 31)
+            return refuse(r, 9, place);
+        number = octets[next] & 0x7F;
+        if (octets[next++] & 0x80) {
+            if (next == end || (octets[next] & 0x80))
+                return refuse(r, 9, place);
+            number = number << 7 | octets[next++];
+        }
+    }
+    one->number = (uint16_t)number;
+    one->place = (uint16_t)place;
+    *at = next;
+    return 1;
+}
+
+static int read_parameters(struct reading *r, size_t at, size_t end)
+{
+    while (at < end) {
+        struct parameter *one;
+        size_t place = at;
+        size_t length;
+
+        if (r->count == MAX_PARAMETERS)
+            return refuse(r, 10, place);
+        one = &r->list[r->count];
+        if (!read_identifier(r, &at, end, one))
+            return 0;
+        if (!read_length(r, place, &at, end, &length))
+            return 0;
+        one->start = (uint16_t)at;
+        one->length = (uint16_t)length;
+        at += length;
+        r->count++;
+    }
+    return 1;
+}
+
+static int read_structure(struct reading *r, size_t end)
+{
+    size_t at = 1;
+    size_t length;
+
+    if (!read_length(r, 0, &at, end, &length))
+        return 0;
+    if (at + length != end)
+        return refuse(r, 5, at + length);
+    if (!read_id(r, &at, end))
+        return 0;
+    if (r->type == INVOKE && !read_operation(r, &at, end))
+        return 0;
+    if (!read_element(r, 0xF2, 8, &at, end, &length))
+        return 0;
+    if (at + length != end)
+        return refuse(r, 5, at + length);
+    return read_parameters(r, at, end);
+}
+
+static const struct row *find_row(uint8_t type, uint8_t specifier)
+{
+    size_t i;
+
+    for (i = 0; i < sizeof rows / sizeof rows[0]; i++)
+        if (rows[i].type == type && rows[i].specifier == specifier)
+            return &rows[i];
+    return NULL;
+}
+
+static int find_named(const struct row *row, const struct parameter *one)
+{
+    int i;
+
+    if (one->constructor)
+        return -1;
+    for (i = 0; i < row->named_count; i++)
+        if (row->named[i] == one->number)
+            return i;
+    return -1;
+}
+
+static int check_row(struct reading *r)
+{
+    const struct row *row = find_row(r->type, r->specifier);
+    uint16_t seen[8] = { 0 };  /* place of the first occurrence */
+    size_t choice_first = 0, choice_second = 0;
+    size_t i;
+
+    if (row == NULL)
+        return refuse(r, 11, r->specifier_place);
+    for (i = 0; i < r->count; i++) {
+        const struct parameter *one = &r->list[i];
+        int which = find_named(row, one);
+
+        if (which < 0)
+            continue;
+        if (seen[which] != 0 && one->number != DIGITS)
+            return refuse(r, 12, one->place);
+        seen[which] = one->place;
+        r->named++;
+        if (row->choice_first != 0 && one->number == row->choice_first)
+            choice_first = one->place;
+        if (row->choice_first != 0 && one->number == row->choice_second)
+            choice_second = one->place;
+    }
+    for (i = 0; i < row->must_count; i++) {
+        if (seen[i] != 0)
+            continue;
+        if (row->named[i] == row->choice_first && choice_second != 0)
+            continue;
+        return refuse(r, 13, row->named[i]);
+    }
+    if (choice_first != 0 && choice_second != 0)
+        return refuse(r, 14, choice_first > choice_second ? choice_first : choice_second);
+    return 1;
+}
+
+uint64_t plain_read(const uint8_t *component, size_t octets, uint8_t specifier,
+                    uint16_t *table, size_t numbers)
+{
+    struct reading r;
+    size_t i;
+
+    if (numbers < MIN_NUMBERS)
+        return 1;
+    if (octets == 0 || octets > MAX_OCTETS)
+        return 2;
+    if (component[0] != INVOKE && component[0] != RESULT)
+        return 3;
+    r.octets = component;
+    r.refusal = 0;
+    r.type = component[0];
+    r.specifier = specifier;
+    r.specifier_place = 0;
+    r.count = 0;
+    r.named = 0;
+    if (!read_structure(&r, octets) || !check_row(&r))
+        return r.refusal;
+    for (i = 0; i < r.count; i++) {
+        table[4 * i] = r.list[i].number;
+        table[4 * i + 1] = r.list[i].constructor;
+        table[4 * i + 2] = r.list[i].start;
+        table[4 * i + 3] = r.list[i].length;
+    }
+    return (uint64_t)r.type << 8 | (uint64_t)r.id_count << 16 | (uint64_t)r.id[0] << 24
+         | (uint64_t)r.id[1] << 32 | (uint64_t)r.specifier << 40
+         | (uint64_t)r.count << 48 | (uint64_t)r.named << 56;
+}

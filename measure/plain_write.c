@@ -1,0 +1,234 @@
+/*
+ * A plain writer of one component, so that the W cases of a stream can be
+ * replayed without another library. Numbers and details are those of the
+ * scope paper.
+ *
+ * Packed result: octet 0 is the answer, octets 1 to 4 the detail or, where
+ * accepted, the octet count.
+ */
+#include <stddef.h>
+#include <stdint.h>
+#include <string.h>
+
+#define ANSWER(number, detail) ((uint64_t)(number) | (uint64_t)(detail) << 8)
+
+/* The rows as text: type, specifier, then the numbers. A number with `!` must
+ * occur, `a/b!` is a choice. */
+static const struct {
+    uint8_t type;
+    uint8_t specifier;
+    const char *parameters;
+} rows[] = {
+    { 0xE9, 4, "5! 6! 8! 2! 3! 1" },
+    { 0xEA, 4, "5!" },
+    { 0xE9, 13, "9! 8/242! 21! 17! 22! 32 123" },
+    { 0xEA, 13, "22!" },
+    { 0xEA, 14, "" },
+    { 0xE9, 15, "1! 4! 21! 22! 32 123" },
+    { 0xEA, 26, "" },
+    { 0xE9, 32, "1! 9! 8! 21 22 32 242" },
+    { 0xE9, 37, "1! 6! 2! 242" },
+    { 0xEA, 64, "4" },
+    { 0xE9, 101, "105! 116! 8 9 242" },
+    { 0xEA, 101, "105 153" },
+};
+
+static const char *find_row(uint8_t type, uint8_t specifier)
+{
+    for (size_t i = 0; i < sizeof rows / sizeof rows[0]; i++)
+        if (rows[i].type == type && rows[i].specifier == specifier)
+            return rows[i].parameters;
+    return NULL;
+}
+
+static unsigned take_number(const char **text)
+{
+    unsigned number = 0;
+
+    while (**text >= '0' && **text <= '9')
+        number = number * 10 + (unsigned)(*(*text)++ - '0');
+    return number;
+}
+
+/* Takes one item of a row; false at its end. */
+static int take_item(const char **text, unsigned *first, unsigned *second, int *must)
+{
+    if (**text == 0)
+        return 0;
+    *first = take_number(text);
+    *second = 0;
+    if (**text == '/') {
+        (*text)++;
+        *second = take_number(text);
+    }
+    *must = **text == '!';
+    *text += *must;
+    if (**text == ' ')
+        (*text)++;
+    return 1;
+}
+
+static int is_named(const char *row, unsigned number)
+{
+    unsigned first, second;
+    int must;
+
+    while (take_item(&row, &first, &second, &must))
+        if (number == first || (second != 0 && number == second))
+            return 1;
+    return 0;
+}
+
+/* The first entry of this number and primitive, or `entries`. */
+static size_t find_entry(const uint16_t *table, size_t entries, unsigned number)
+{
+    size_t i = 0;
+
+    while (i < entries && (table[4 * i] != number || table[4 * i + 1] != 0))
+        i++;
+    return i;
+}
+
+static uint64_t check_row(const char *row, const uint16_t *table, size_t entries)
+{
+    unsigned first, second;
+    int must;
+    const char *text;
+
+    if (row == NULL)
+        return ANSWER(11, 0);
+    for (size_t i = 0; i < entries; i++) {
+        unsigned number = table[4 * i];
+
+        if (table[4 * i + 1] == 0 && number != 4 && is_named(row, number)
+            && find_entry(table, i, number) < i)
+            return ANSWER(12, i);
+    }
+    for (text = row; take_item(&text, &first, &second, &must);) {
+        if (must && find_entry(table, entries, first) == entries
+            && (second == 0 || find_entry(table, entries, second) == entries))
+            return ANSWER(13, first);
+    }
+    for (text = row; take_item(&text, &first, &second, &must);) {
+        if (second != 0) {
+            size_t one = find_entry(table, entries, first);
+            size_t other = find_entry(table, entries, second);
+
+            if (one < entries && other < entries)
+                return ANSWER(14, one > other ? one : other);
+        }
+    }
+    return 0;
+}
+
+static size_t with_length(size_t length)
+{
+    return length + (length > 0xFFFF ? 4 : length > 0xFF ? 3 : length > 0x7F ? 2 : 1);
+}
+
+static uint8_t *put_length(uint8_t *out, size_t length)
+{
+    if (length > 0xFF) {
+        *out++ = 0x82;
+        *out++ = (uint8_t)(length >> 8);
+    } else if (length > 0x7F) {
+        *out++ = 0x81;
+    }
+    *out++ = (uint8_t)length;
+    return out;
+}
+
+static uint8_t *put_entry(uint8_t *out, const uint16_t *entry, const uint8_t *source)
+{
+    uint8_t form = entry[1] ? 0xA0 : 0x80;
+
+    if (entry[0] <= 30) {
+        *out++ = (uint8_t)(form | entry[0]);
+    } else {
+        *out++ = form | 0x1F;
+        if (entry[0] > 127)
+            *out++ = (uint8_t)(0x80 | entry[0] >> 7);
+        *out++ = entry[0] & 0x7F;
+    }
+    out = put_length(out, entry[3]);
+    memcpy(out, source + entry[2], entry[3]);
+    return out + entry[3];
+}
+
+/* The call's values, and the lengths of its set, its body and the whole. */
+struct writing {
+    uint8_t type;
+    uint8_t id_count;
+    uint8_t id[2];
+    uint8_t specifier;
+    size_t entries;
+    const uint16_t *table;
+    const uint8_t *source;
+    size_t set;
+    size_t body;
+    size_t whole;
+};
+
+/* Asks 16 and 15 and counts the octets. */
+static uint64_t measure(struct writing *w, size_t source_octets)
+{
+    w->set = 0;
+    for (size_t i = 0; i < w->entries; i++) {
+        const uint16_t *entry = w->table + 4 * i;
+
+        if (entry[0] > 16383 || entry[1] > 1 || (size_t)entry[2] + entry[3] > source_octets)
+            return ANSWER(16, i);
+        w->set += (entry[0] > 127 ? 3 : entry[0] > 30 ? 2 : 1) + with_length(entry[3]);
+    }
+    w->body = 2 + w->id_count + (w->type == 0xE9 ? 4 : 0) + 1 + with_length(w->set);
+    w->whole = 1 + with_length(w->body);
+    return w->whole > 4096 ? ANSWER(15, w->whole) : 0;
+}
+
+static void compose(const struct writing *w, uint8_t *out)
+{
+    *out++ = w->type;
+    out = put_length(out, w->body);
+    *out++ = 0xCF;
+    *out++ = w->id_count;
+    memcpy(out, w->id, w->id_count);
+    out += w->id_count;
+    if (w->type == 0xE9) {
+        const uint8_t operation[] = { 0xD1, 0x02, 0x09, w->specifier };
+
+        memcpy(out, operation, sizeof operation);
+        out += sizeof operation;
+    }
+    *out++ = 0xF2;
+    out = put_length(out, w->set);
+    for (size_t i = 0; i < w->entries; i++)
+        out = put_entry(out, w->table + 4 * i, w->source);
+}
+
+uint64_t plain_write(uint8_t type, uint8_t id_count, uint8_t id_first, uint8_t id_second,
+                     uint8_t specifier, size_t entries, const uint16_t *table, size_t numbers,
+                     const uint8_t *source, size_t source_octets,
+                     uint8_t *output, size_t output_octets)
+{
+    struct writing w = { type, id_count, { id_first, id_second }, specifier,
+                         entries, table, source, 0, 0, 0 };
+    uint64_t fault;
+
+    if (type != 0xE9 && type != 0xEA)
+        return ANSWER(3, 0);
+    if (id_count > 2 || (type == 0xEA && id_count != 1))
+        return ANSWER(6, 0);
+    if (entries > 64)
+        return ANSWER(10, 0);
+    if (numbers < 4 * entries)
+        return ANSWER(1, 0);
+    fault = measure(&w, source_octets);
+    if (fault == 0)
+        fault = check_row(find_row(type, specifier), table, entries);
+    if (fault != 0)
+        return fault;
+    if (output_octets < w.whole)
+        return ANSWER(17, w.whole);
+    compose(&w, output);
+    return ANSWER(0, w.whole);
+}

@@ -1,0 +1,138 @@
+//! The stream of cases for a harness in C.
+//!
+//! All numbers are little endian. Each case begins with a kind octet; the
+//! stream ends with the octet 'E'.
+//!
+//! 'R', a call of the reader:
+//!   u8 specifier
+//!   u32 component length, the octets
+//!   u32 table length in numbers; the harness fills table[i] before the call
+//!       with (i * 40503 + 7) mod 65536
+//!   expected: u64 packed result
+//!   u32 count of leading table numbers that changed, these numbers as u16
+//!
+//! 'W', a call of the writer:
+//!   u8 type, u8 id_count, u8 id_first, u8 id_second, u8 specifier
+//!   u64 entries
+//!   u32 table length in numbers, the numbers as u16
+//!   u32 source length, the octets
+//!   u32 output length; the harness fills output[i] before the call with
+//!       (i * 167 + 13) mod 256
+//!   expected: u64 packed result
+//!   u32 count of leading output octets that changed, these octets
+//!
+//! "Changed" means written: 4 numbers a parameter, or the component's octets,
+//! when accepted, else 0. All other numbers and octets stay as filled.
+//!
+//! Packed result: octet 0 (least significant) is the answer, 0 accepted.
+//! Refused: octets 1 to 4 the detail, least significant first, the rest 0.
+//! Reader accepted: octets 1 to 7 are type, count of ID octets, first and
+//! second ID octet (0 where absent), specifier, count of all, count of named.
+//! Writer accepted: octets 1 to 4 the octet count, the rest 0.
+
+use crate::generate::{read_case, write_case, ReadCase, WriteCase};
+use crate::random::Random;
+use crate::{reader, writer};
+use std::io::{self, Write};
+
+/// Seeds the cases of the writer apart from those of the reader, so that the
+/// count of the one does not change the other.
+const WRITER_SEED: u64 = 0x5752_4954_4552_0000;
+
+pub fn read_random(seed: u64) -> Random {
+    Random::new(seed)
+}
+
+pub fn write_random(seed: u64) -> Random {
+    Random::new(seed ^ WRITER_SEED)
+}
+
+/// The table before a call.
+pub fn table_before(numbers: usize) -> Vec<u16> {
+    (0..numbers).map(|i| (i * 40503 + 7) as u16).collect()
+}
+
+/// The output before a call.
+pub fn output_before(octets: usize) -> Vec<u8> {
+    (0..octets).map(|i| (i * 167 + 13) as u8).collect()
+}
+
+/// Answers a reader case; the second is the part of the table that changed.
+pub fn answer_read(case: &ReadCase) -> (reader::Answer, Vec<u16>) {
+    let before = table_before(case.numbers);
+    let mut table = before.clone();
+    let answer = reader::read(&case.component, case.specifier, &mut table);
+    let changed = answer.as_ref().map_or(0, |accepted| 4 * accepted.all);
+    assert_eq!(table[changed..], before[changed..]);
+    table.truncate(changed);
+    (answer, table)
+}
+
+/// Answers a writer case; the second is the part of the output that changed.
+pub fn answer_write(case: &WriteCase) -> (writer::Answer, Vec<u8>) {
+    let before = output_before(case.output);
+    let mut output = before.clone();
+    let answer = writer::write(
+        case.head,
+        case.entries,
+        &case.table,
+        &case.source,
+        &mut output,
+    );
+    let changed = answer.unwrap_or(0);
+    assert_eq!(output[changed..], before[changed..]);
+    output.truncate(changed);
+    (answer, output)
+}
+
+pub fn stream(out: &mut impl Write, reads: u64, writes: u64, seed: u64) -> io::Result<()> {
+    let mut random = read_random(seed);
+    for _ in 0..reads {
+        put_read(out, &read_case(&mut random))?;
+    }
+    let mut random = write_random(seed);
+    for _ in 0..writes {
+        put_write(out, &write_case(&mut random))?;
+    }
+    out.write_all(b"E")
+}
+
+fn put_count(out: &mut impl Write, count: usize) -> io::Result<()> {
+    let count = u32::try_from(count).expect("a count fits 32 bits");
+    out.write_all(&count.to_le_bytes())
+}
+
+fn put_octets(out: &mut impl Write, octets: &[u8]) -> io::Result<()> {
+    put_count(out, octets.len())?;
+    out.write_all(octets)
+}
+
+fn put_numbers(out: &mut impl Write, numbers: &[u16]) -> io::Result<()> {
+    put_count(out, numbers.len())?;
+    for number in numbers {
+        out.write_all(&number.to_le_bytes())?;
+    }
+    Ok(())
+}
+
+fn put_read(out: &mut impl Write, case: &ReadCase) -> io::Result<()> {
+    let (answer, changed) = answer_read(case);
+    out.write_all(&[b'R', case.specifier])?;
+    put_octets(out, &case.component)?;
+    put_count(out, case.numbers)?;
+    out.write_all(&reader::packed(&answer).to_le_bytes())?;
+    put_numbers(out, &changed)
+}
+
+fn put_write(out: &mut impl Write, case: &WriteCase) -> io::Result<()> {
+    let (answer, changed) = answer_write(case);
+    let head = case.head;
+    out.write_all(&[b'W', head.kind, head.id_count])?;
+    out.write_all(&[head.id_first, head.id_second, head.specifier])?;
+    out.write_all(&(case.entries as u64).to_le_bytes())?;
+    put_numbers(out, &case.table)?;
+    put_octets(out, &case.source)?;
+    put_count(out, case.output)?;
+    out.write_all(&writer::packed(&answer).to_le_bytes())?;
+    put_octets(out, &changed)
+}

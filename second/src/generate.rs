@@ -1,0 +1,138 @@
+//! Seeded cases for the reader and the writer.
+
+mod damage;
+mod draft;
+mod read_cases;
+mod write_cases;
+
+pub use read_cases::{read_case, ReadCase};
+pub use write_cases::{write_case, WriteCase};
+
+use crate::random::Random;
+use crate::rows::{self, Must, Row, DIGITS, INVOKE, RESULT, ROWS};
+
+/// Numbers at the edges of the three identifier forms, and others around the
+/// register's.
+const NUMBERS: [u16; 28] = [
+    0, 7, 10, 29, 30, 31, 32, 33, 63, 64, 100, 105, 116, 123, 126, 127, 128, 129, 153, 200, 242,
+    255, 256, 4095, 8191, 8192, 16382, 16383,
+];
+
+/// The numbers of the register: other rows name them, this one may not.
+const REGISTER: [u16; 17] = [
+    1, 2, 3, 4, 5, 6, 8, 9, 17, 21, 22, 32, 105, 116, 123, 153, 242,
+];
+
+/// A number that no row names, for filling up to a size.
+const FILLER: u16 = 200;
+
+/// One parameter as the generator draws it.
+#[derive(Clone, Copy)]
+struct Drawn {
+    number: u16,
+    constructor: bool,
+    length: usize,
+}
+
+/// The row with a choice is the only way to 14, so it is drawn more often.
+fn draw_row(random: &mut Random) -> &'static Row {
+    if random.percent(12) {
+        return rows::find(INVOKE, 13).expect("the row with a choice");
+    }
+    &ROWS[random.below(ROWS.len())]
+}
+
+/// A component type and a specifier without a row, often ones of which the
+/// other component type has a row.
+fn draw_rowless(random: &mut Random, kind: u8) -> u8 {
+    loop {
+        let specifier = if random.percent(50) {
+            random.pick(&[0, 4, 13, 14, 15, 26, 32, 37, 64, 101, 255])
+        } else {
+            random.octet()
+        };
+        if rows::find(kind, specifier).is_none() {
+            return specifier;
+        }
+    }
+}
+
+/// No octets often, mostly a few.
+fn draw_length(random: &mut Random) -> usize {
+    match random.below(100) {
+        0..=29 => 0,
+        30..=95 => random.between(1, 8),
+        96..=98 => random.between(9, 40),
+        _ => random.pick(&[126, 127, 128, 129, 254, 255, 256, 257]),
+    }
+}
+
+/// A parameter the row does not name: another number, or the constructor
+/// twin of a named one.
+fn draw_other(random: &mut Random, row: &Row) -> Drawn {
+    let number = match random.below(3) {
+        0 => random.pick(&NUMBERS),
+        1 => random.pick(&REGISTER),
+        _ => random.below(16384) as u16,
+    };
+    let identifier = rows::Identifier {
+        number,
+        constructor: false,
+    };
+    Drawn {
+        number,
+        constructor: row.names(identifier) || random.percent(30),
+        length: draw_length(random),
+    }
+}
+
+fn draw_named(random: &mut Random, number: u16) -> Drawn {
+    Drawn {
+        number,
+        constructor: false,
+        length: draw_length(random),
+    }
+}
+
+/// Parameters that the row takes, in any order.
+fn draw_parameters(random: &mut Random, row: &Row) -> Vec<Drawn> {
+    let mut list = Vec::new();
+    for must in row.must {
+        let number = match *must {
+            Must::One(only) => only,
+            Must::Either(first, second) => random.pick(&[first, second]),
+        };
+        list.push(draw_named(random, number));
+    }
+    for number in row.also {
+        if random.percent(40) {
+            list.push(draw_named(random, *number));
+        }
+    }
+    while random.percent(35) {
+        list.push(draw_other(random, row));
+    }
+    let names_digits = row.names(rows::Identifier {
+        number: DIGITS,
+        constructor: false,
+    });
+    while names_digits && random.percent(40) {
+        list.push(draw_named(random, DIGITS));
+    }
+    if random.percent(80) {
+        random.shuffle(&mut list);
+    }
+    list
+}
+
+/// Both members of the choice, wherever a row has one.
+fn choice_members(row: &Row) -> Option<(u16, u16)> {
+    row.must.iter().find_map(|must| match *must {
+        Must::Either(first, second) => Some((first, second)),
+        Must::One(_) => None,
+    })
+}
+
+fn draw_kind(random: &mut Random) -> u8 {
+    random.pick(&[INVOKE, RESULT])
+}

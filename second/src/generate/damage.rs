@@ -1,0 +1,381 @@
+//! The damages: each breaks one thing, or does something that looks broken
+//! and is not.
+
+use super::draft::{element, identifier, Draft, Element, Length};
+use super::{choice_members, draw_kind, draw_named, draw_other, draw_rowless, NUMBERS};
+use crate::random::Random;
+use crate::rows::INVOKE;
+
+type Damage = fn(&mut Random, &mut Draft);
+
+/// Some stand twice to be met more often.
+const DAMAGES: [Damage; 40] = [
+    wrong_type,
+    swapped_type,
+    no_id,
+    wrong_id_identifier,
+    wrong_id_length,
+    wrong_id_length,
+    no_operation,
+    wrong_operation_identifier,
+    wrong_operation_length,
+    wrong_family,
+    no_set,
+    wrong_set_identifier,
+    no_row,
+    no_row,
+    wrong_class,
+    long_run,
+    long_run,
+    leading_80,
+    long_form_below_31,
+    identifier_cut,
+    wide_length,
+    wide_length,
+    wrong_length_form,
+    wrong_length_form,
+    length_off,
+    length_off,
+    length_cut_in_set,
+    cut_set,
+    cut_body,
+    left_over,
+    left_over,
+    twin_instead,
+    twin_added,
+    repeat_any,
+    repeat_any,
+    drop_one,
+    drop_one,
+    both_of_choice,
+    all_empty,
+    empty_set,
+];
+
+pub fn apply(random: &mut Random, draft: &mut Draft) {
+    random.pick(&DAMAGES)(random, draft);
+}
+
+fn wrong_type(random: &mut Random, draft: &mut Draft) {
+    let near = [0xE8, 0xEB, 0xEC, 0xC9, 0xCA, 0x69, 0x6A, 0x30, 0x00, 0xFF];
+    draft.kind = random.pick(&near);
+}
+
+/// The rest stays as the other type has it.
+fn swapped_type(random: &mut Random, draft: &mut Draft) {
+    draft.kind = draw_kind(random);
+}
+
+fn no_id(_: &mut Random, draft: &mut Draft) {
+    draft.id = None;
+}
+
+fn wrong_id_identifier(random: &mut Random, draft: &mut Draft) {
+    if let Some(id) = &mut draft.id {
+        id.identifier = vec![random.pick(&[0xCE, 0xEF, 0x8F, 0x4F, 0x0F, 0xD1, 0xF2, 0xDF, 0x02])];
+    }
+}
+
+fn wrong_id_length(random: &mut Random, draft: &mut Draft) {
+    let count = random.pick(&[0, 0, 1, 2, 2, 3, 3, 4, 5, 127, 128, 256]);
+    if let Some(id) = &mut draft.id {
+        id.contents = random.octets(count);
+    }
+}
+
+fn no_operation(_: &mut Random, draft: &mut Draft) {
+    draft.operation = None;
+}
+
+fn wrong_operation_identifier(random: &mut Random, draft: &mut Draft) {
+    if let Some(operation) = &mut draft.operation {
+        operation.identifier = vec![random.pick(&[0xD0, 0xD2, 0xF1, 0x91, 0x51, 0xCF, 0xF2, 0x02])];
+    }
+}
+
+fn wrong_operation_length(random: &mut Random, draft: &mut Draft) {
+    let count = random.pick(&[0, 1, 3, 4, 127, 128, 256]);
+    if let Some(operation) = &mut draft.operation {
+        operation.contents.resize(count, 0x04);
+    }
+}
+
+fn wrong_family(random: &mut Random, draft: &mut Draft) {
+    let family = random.pick(&[0x00, 0x08, 0x0A, 0x89, 0x19, 0xFF, 0x01]);
+    if let Some(operation) = &mut draft.operation {
+        if let Some(first) = operation.contents.first_mut() {
+            *first = family;
+        }
+    }
+}
+
+fn no_set(_: &mut Random, draft: &mut Draft) {
+    draft.set_identifier = None;
+}
+
+fn wrong_set_identifier(random: &mut Random, draft: &mut Draft) {
+    draft.set_identifier = Some(random.pick(&[0xF1, 0xF3, 0xD2, 0xB2, 0x72, 0x30, 0x31, 0xCF]));
+}
+
+fn no_row(random: &mut Random, draft: &mut Draft) {
+    let specifier = draw_rowless(random, draft.kind);
+    if draft.kind != INVOKE {
+        draft.specifier = specifier;
+    } else if let Some(operation) = &mut draft.operation {
+        operation.contents = vec![0x09, specifier];
+    }
+}
+
+/// Puts a parameter anywhere among the others.
+fn insert(random: &mut Random, draft: &mut Draft, parameter: Element) {
+    let at = random.below(draft.parameters.len() + 1);
+    draft.parameters.insert(at, parameter);
+}
+
+fn insert_raw(random: &mut Random, draft: &mut Draft, identifier: Vec<u8>) {
+    let count = random.below(4);
+    let contents = random.octets(count);
+    insert(random, draft, Element::new(identifier, contents));
+}
+
+/// Class bits 00, 01 or 11, with the other bits of any kind.
+fn wrong_class(random: &mut Random, draft: &mut Draft) {
+    let class = random.pick(&[0x00, 0x40, 0xC0]);
+    let first = class | random.octet() & 0x3F;
+    insert_raw(random, draft, vec![first, 0x20]);
+}
+
+fn form(random: &mut Random) -> u8 {
+    random.pick(&[0x9F, 0xBF])
+}
+
+/// Three to six octets of number, mostly the least number over 16,383.
+fn long_run(random: &mut Random, draft: &mut Draft) {
+    let mut octets = vec![form(random), 0x81, 0x80];
+    if random.percent(50) {
+        octets[1] = random.between(0x81, 0xFF) as u8;
+        octets[2] = random.between(0x80, 0xFF) as u8;
+        for _ in 0..random.below(4) {
+            octets.push(random.between(0x80, 0xFF) as u8);
+        }
+    }
+    octets.push(random.below(0x80) as u8);
+    insert_raw(random, draft, octets);
+}
+
+fn leading_80(random: &mut Random, draft: &mut Draft) {
+    let mut octets = vec![form(random), 0x80];
+    if random.percent(30) {
+        octets.push(random.between(0x80, 0xFF) as u8);
+    }
+    octets.push(random.below(0x80) as u8);
+    insert_raw(random, draft, octets);
+}
+
+fn long_form_below_31(random: &mut Random, draft: &mut Draft) {
+    let number = random.pick(&[0, 4, 5, 8, 22, 29, 30, 30]);
+    let octets = vec![form(random), number];
+    insert_raw(random, draft, octets);
+}
+
+/// The set ends within the last identifier.
+fn identifier_cut(random: &mut Random, draft: &mut Draft) {
+    let first = form(random);
+    let high = random.between(0x80, 0xFF) as u8;
+    let kept = match random.below(4) {
+        0 | 1 => vec![first],
+        2 => vec![first, high],
+        _ => vec![first, high, 0x80, 0x80],
+    };
+    let mut last = Element::new(kept, Vec::new());
+    last.length = Length::Raw(Vec::new());
+    draft.parameters.push(last);
+}
+
+/// One of the length fields at any level.
+fn any_length<'a>(random: &mut Random, draft: &'a mut Draft) -> &'a mut Length {
+    let parameters = draft.parameters.len();
+    match random.below(6) {
+        0 => &mut draft.outer,
+        1 if draft.id.is_some() => &mut draft.id.as_mut().expect("there").length,
+        2 if draft.operation.is_some() => &mut draft.operation.as_mut().expect("there").length,
+        4 | 5 if parameters > 0 => &mut draft.parameters[random.below(parameters)].length,
+        _ => &mut draft.set_length,
+    }
+}
+
+fn wide_length(random: &mut Random, draft: &mut Draft) {
+    let wide = random.pick(&[0x81, 0x82]);
+    *any_length(random, draft) = Length::Wide(wide);
+}
+
+fn wrong_length_form(random: &mut Random, draft: &mut Draft) {
+    let first = match random.below(3) {
+        0 => 0x80,
+        1 => random.pick(&[0x83, 0x84, 0xFE, 0xFF]),
+        _ => random.between(0x83, 0xFF) as u8,
+    };
+    let more = random.below(4);
+    let mut octets = vec![first];
+    octets.extend(random.octets(more));
+    *any_length(random, draft) = Length::Raw(octets);
+}
+
+/// Too long or too short by one, a few or many.
+fn length_off(random: &mut Random, draft: &mut Draft) {
+    let off = match random.below(10) {
+        0..=2 => 1,
+        3..=5 => -1,
+        6 => random.between(2, 10) as i32,
+        7 => -(random.between(2, 10) as i32),
+        8 => random.pick(&[100, 127, 128, 255, 256]),
+        _ => random.pick(&[4095, 4096, 30000, 60000]),
+    };
+    *any_length(random, draft) = Length::Off(off);
+}
+
+/// The set ends before or within the last length field.
+fn length_cut_in_set(random: &mut Random, draft: &mut Draft) {
+    let number = random.pick(&NUMBERS);
+    let mut last = Element::new(identifier(number, random.percent(50)), Vec::new());
+    let octets: &[u8] = match random.below(4) {
+        0 => &[],
+        1 => &[0x81],
+        2 => &[0x82],
+        _ => &[0x82, 0x01],
+    };
+    last.length = Length::Raw(octets.to_vec());
+    draft.parameters.push(last);
+}
+
+fn cut_set(random: &mut Random, draft: &mut Draft) {
+    let count = draft.set_contents().len();
+    draft.set_cut = Some(random.below(count + 1));
+}
+
+fn cut_body(random: &mut Random, draft: &mut Draft) {
+    let count = draft.body().len();
+    let most = if random.percent(60) {
+        count.min(12)
+    } else {
+        count
+    };
+    draft.body_cut = Some(random.below(most + 1));
+}
+
+fn left_over(random: &mut Random, draft: &mut Draft) {
+    let count = random.between(1, 3);
+    let octets = if random.percent(30) {
+        vec![0; count]
+    } else {
+        random.octets(count)
+    };
+    if random.percent(50) {
+        draft.behind_set = octets;
+    } else {
+        draft.behind = octets;
+    }
+}
+
+fn twin_instead(random: &mut Random, draft: &mut Draft) {
+    if !draft.parameters.is_empty() {
+        let at = random.below(draft.parameters.len());
+        draft.parameters[at].identifier[0] ^= 0x20;
+    }
+}
+
+fn twin_added(random: &mut Random, draft: &mut Draft) {
+    if !draft.parameters.is_empty() {
+        let mut twin = draft.parameters[random.below(draft.parameters.len())].clone();
+        twin.identifier[0] ^= 0x20;
+        insert(random, draft, twin);
+    }
+}
+
+/// A named one again (12), or Digits or another again, which is no fault.
+fn repeat_any(random: &mut Random, draft: &mut Draft) {
+    for _ in 0..random.between(1, 2) {
+        if !draft.parameters.is_empty() {
+            let mut again = draft.parameters[random.below(draft.parameters.len())].clone();
+            let count = random.below(5);
+            again.contents = random.octets(count);
+            insert(random, draft, again);
+        }
+    }
+}
+
+fn drop_one(random: &mut Random, draft: &mut Draft) {
+    for _ in 0..random.between(1, 2) {
+        if !draft.parameters.is_empty() {
+            let at = random.below(draft.parameters.len());
+            draft.parameters.remove(at);
+        }
+    }
+}
+
+/// Adds the members that do not occur; a row without a choice gets the two
+/// numbers of the one that has it where it does not name them.
+pub fn both_of_choice(random: &mut Random, draft: &mut Draft) {
+    let (first, second) = choice_members(draft.row).unwrap_or((8, 242));
+    for number in [first, second] {
+        let octets = identifier(number, false);
+        if !draft.parameters.iter().any(|one| one.identifier == octets) {
+            let drawn = draw_named(random, number);
+            let member = element(random, drawn);
+            insert(random, draft, member);
+        }
+    }
+}
+
+fn all_empty(_: &mut Random, draft: &mut Draft) {
+    for parameter in &mut draft.parameters {
+        parameter.contents.clear();
+    }
+}
+
+fn empty_set(_: &mut Random, draft: &mut Draft) {
+    draft.parameters.clear();
+}
+
+/// Up to `count` parameters, all that come in addition not named.
+pub fn fill_up(random: &mut Random, draft: &mut Draft, count: usize) {
+    while draft.parameters.len() < count {
+        add_other(random, draft);
+    }
+}
+
+/// A short parameter that the row does not name.
+pub fn add_other(random: &mut Random, draft: &mut Draft) {
+    let mut drawn = draw_other(random, draft.row);
+    drawn.length = drawn.length.min(8);
+    let other = element(random, drawn);
+    insert(random, draft, other);
+}
+
+/// Breaks a parameter at this index, if there is one: for the 65th, where 10
+/// comes before 9.
+pub fn break_at(random: &mut Random, draft: &mut Draft, index: usize) {
+    if let Some(parameter) = draft.parameters.get_mut(index) {
+        match random.below(3) {
+            0 => parameter.identifier = vec![random.pick(&[0x05, 0x45, 0xC5])],
+            1 => parameter.identifier = vec![0x9F, 0x80, 0x05],
+            _ => parameter.length = Length::Raw(vec![0x80]),
+        }
+    }
+}
+
+/// Flips, inserts and deletes of single octets.
+pub fn mutate(random: &mut Random, octets: &mut Vec<u8>) {
+    for _ in 0..random.between(1, 4) {
+        let count = octets.len();
+        let octet = random.octet();
+        match random.below(4) {
+            0 if count > 0 => octets[random.below(count)] ^= 1 << random.below(8),
+            1 if count > 0 => octets[random.below(count)] = octet,
+            2 if count > 0 => {
+                octets.remove(random.below(count));
+            }
+            _ => octets.insert(random.below(count + 1), octet),
+        }
+    }
+}

@@ -1,0 +1,192 @@
+//! A component in pieces, so that one piece can be damaged while the lengths
+//! around it stay right and the reader gets as far as that piece.
+
+use super::{draw_parameters, draw_rowless, Drawn, FILLER};
+use crate::random::Random;
+use crate::rows::{Row, INVOKE};
+
+/// How a length field is made.
+#[derive(Clone)]
+pub enum Length {
+    Shortest,
+    /// The shortest form of the true length plus this many octets.
+    Off(i32),
+    /// 81 or 82 also where a shorter form would do.
+    Wide(u8),
+    /// These octets instead of a field.
+    Raw(Vec<u8>),
+}
+
+#[derive(Clone)]
+pub struct Element {
+    pub identifier: Vec<u8>,
+    pub length: Length,
+    pub contents: Vec<u8>,
+}
+
+/// The pieces of a component, its set identifier and length apart from the
+/// parameters in it.
+#[derive(Clone)]
+pub struct Draft {
+    pub row: &'static Row,
+    pub kind: u8,
+    /// The caller's.
+    pub specifier: u8,
+    pub outer: Length,
+    pub id: Option<Element>,
+    pub operation: Option<Element>,
+    pub set_identifier: Option<u8>,
+    pub set_length: Length,
+    pub parameters: Vec<Element>,
+    /// Keep only so many octets of the set's contents, or of the body.
+    pub set_cut: Option<usize>,
+    pub body_cut: Option<usize>,
+    /// Octets behind F2 within the body, and behind the whole component.
+    pub behind_set: Vec<u8>,
+    pub behind: Vec<u8>,
+}
+
+impl Element {
+    pub fn new(identifier: Vec<u8>, contents: Vec<u8>) -> Element {
+        Element {
+            identifier,
+            length: Length::Shortest,
+            contents,
+        }
+    }
+
+    fn put(&self, octets: &mut Vec<u8>) {
+        octets.extend(&self.identifier);
+        octets.extend(self.length.octets(self.contents.len()));
+        octets.extend(&self.contents);
+    }
+}
+
+impl Length {
+    fn octets(&self, length: usize) -> Vec<u8> {
+        match self {
+            Length::Shortest => shortest(length),
+            Length::Off(off) => shortest(length.saturating_add_signed(*off as isize)),
+            Length::Wide(0x81) => vec![0x81, length as u8],
+            Length::Wide(_) => vec![0x82, (length >> 8) as u8, length as u8],
+            Length::Raw(octets) => octets.clone(),
+        }
+    }
+}
+
+fn shortest(length: usize) -> Vec<u8> {
+    let two = [(length >> 8) as u8, length as u8];
+    if length < 128 {
+        vec![two[1]]
+    } else if length < 256 {
+        vec![0x81, two[1]]
+    } else {
+        vec![0x82, two[0], two[1]]
+    }
+}
+
+/// Identifier octets in the form the paper takes.
+pub fn identifier(number: u16, constructor: bool) -> Vec<u8> {
+    let form = 0x80 + 0x20 * u8::from(constructor);
+    let low = (number % 128) as u8;
+    if number < 31 {
+        vec![form + low]
+    } else if number < 128 {
+        vec![form + 31, low]
+    } else {
+        vec![form + 31, 128 + (number / 128) as u8, low]
+    }
+}
+
+pub fn element(random: &mut Random, drawn: Drawn) -> Element {
+    Element::new(
+        identifier(drawn.number, drawn.constructor),
+        random.octets(drawn.length),
+    )
+}
+
+impl Draft {
+    /// A component that the row takes.
+    pub fn valid(random: &mut Random, row: &'static Row) -> Draft {
+        let invoke = row.kind == INVOKE;
+        let id_count = if invoke { random.below(3) } else { 1 };
+        let id = Element::new(vec![0xCF], random.octets(id_count));
+        let operation = invoke.then(|| Element::new(vec![0xD1], vec![0x09, row.specifier]));
+        let specifier = if !invoke {
+            row.specifier
+        } else if random.percent(50) {
+            draw_rowless(random, row.kind)
+        } else {
+            random.octet()
+        };
+        let drawn = draw_parameters(random, row);
+        let parameters = drawn.iter().map(|one| element(random, *one)).collect();
+        Draft {
+            row,
+            kind: row.kind,
+            specifier,
+            outer: Length::Shortest,
+            id: Some(id),
+            operation,
+            set_identifier: Some(0xF2),
+            set_length: Length::Shortest,
+            parameters,
+            set_cut: None,
+            body_cut: None,
+            behind_set: Vec::new(),
+            behind: Vec::new(),
+        }
+    }
+
+    pub fn set_contents(&self) -> Vec<u8> {
+        let mut octets = Vec::new();
+        for parameter in &self.parameters {
+            parameter.put(&mut octets);
+        }
+        if let Some(kept) = self.set_cut {
+            octets.truncate(kept);
+        }
+        octets
+    }
+
+    pub fn body(&self) -> Vec<u8> {
+        let mut octets = Vec::new();
+        for part in [&self.id, &self.operation].into_iter().flatten() {
+            part.put(&mut octets);
+        }
+        let set = self.set_contents();
+        if let Some(identifier) = self.set_identifier {
+            octets.push(identifier);
+            octets.extend(self.set_length.octets(set.len()));
+            octets.extend(set);
+        }
+        octets.extend(&self.behind_set);
+        if let Some(kept) = self.body_cut {
+            octets.truncate(kept);
+        }
+        octets
+    }
+
+    pub fn octets(&self) -> Vec<u8> {
+        let body = self.body();
+        let mut octets = vec![self.kind];
+        octets.extend(self.outer.octets(body.len()));
+        octets.extend(body);
+        octets.extend(&self.behind);
+        octets
+    }
+
+    /// Adds a filler whose contents bring the measured count to the target,
+    /// or near it where a longer length field leaps over it.
+    pub fn fit(&mut self, random: &mut Random, target: usize, measured: fn(&Draft) -> usize) {
+        let filler = Element::new(identifier(FILLER, random.percent(50)), Vec::new());
+        let at = random.below(self.parameters.len() + 1);
+        self.parameters.insert(at, filler);
+        for _ in 0..6 {
+            let now = measured(self);
+            let length = self.parameters[at].contents.len();
+            let wanted = (length + target).saturating_sub(now);
+            self.parameters[at].contents = random.octets(wanted);
+        }
+    }
+}

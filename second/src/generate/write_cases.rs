@@ -1,0 +1,473 @@
+//! Whole cases for the writer.
+
+use super::{choice_members, draw_named, draw_other, draw_parameters, draw_row, draw_rowless};
+use super::{Drawn, FILLER};
+use crate::random::Random;
+use crate::rows::{Row, INVOKE};
+use crate::writer::{self, Head};
+
+/// What a call of the writer takes; the output's octets before the call
+/// follow from their index.
+pub struct WriteCase {
+    pub head: Head,
+    pub entries: usize,
+    pub table: Vec<u16>,
+    pub source: Vec<u8>,
+    pub output: usize,
+}
+
+/// A case while it is drawn: entries as fours of numbers.
+struct Draft {
+    row: &'static Row,
+    head: Head,
+    list: Vec<[u16; 4]>,
+    source: Vec<u8>,
+    /// An entry count other than the list's.
+    claimed: Option<usize>,
+    /// Numbers missing at the table's end, or in addition behind it.
+    missing: usize,
+    more: usize,
+}
+
+type Damage = fn(&mut Random, &mut Draft);
+
+/// Some stand twice to be met more often.
+const DAMAGES: [Damage; 27] = [
+    wrong_type,
+    wrong_id_count,
+    wrong_id_count,
+    claim_other,
+    claim_huge,
+    short_table,
+    short_table,
+    no_table,
+    number_over,
+    form_over,
+    contents_just_past,
+    contents_just_past,
+    contents_far_past,
+    start_past,
+    start_at_end,
+    short_source,
+    no_row,
+    no_row,
+    repeat_any,
+    repeat_any,
+    drop_one,
+    drop_one,
+    twin_instead,
+    both_of_choice,
+    both_of_choice,
+    overlapping,
+    crowd,
+];
+
+pub fn write_case(random: &mut Random) -> WriteCase {
+    let mut draft = Draft::valid(random);
+    match random.below(2000) {
+        0..=699 => {}
+        700..=1799 => damage(random, &mut draft),
+        1800..=1829 => crowd(random, &mut draft),
+        1830..=1879 => sized(random, &mut draft),
+        1880..=1909 => sized_large(random, &mut draft),
+        1910..=1949 => beyond_65535(random, &mut draft),
+        1950..=1989 => many_long(random, &mut draft),
+        1990..=1998 => many_long_damaged(random, &mut draft),
+        _ => longest(random, &mut draft),
+    }
+    draft.finish(random)
+}
+
+/// Mostly one, sometimes more, for the order among the numbers.
+fn damage(random: &mut Random, draft: &mut Draft) {
+    random.pick(&DAMAGES)(random, draft);
+    while random.percent(30) {
+        random.pick(&DAMAGES)(random, draft);
+    }
+}
+
+impl Draft {
+    fn valid(random: &mut Random) -> Draft {
+        let row = draw_row(random);
+        let id_count = if row.kind == INVOKE {
+            random.below(3) as u8
+        } else {
+            1
+        };
+        let head = Head {
+            kind: row.kind,
+            id_count,
+            id_first: random.octet(),
+            id_second: random.octet(),
+            specifier: row.specifier,
+        };
+        let lead = random.below(6);
+        let mut draft = Draft {
+            row,
+            head,
+            list: Vec::new(),
+            source: random.octets(lead),
+            claimed: None,
+            missing: 0,
+            more: 0,
+        };
+        for drawn in draw_parameters(random, row) {
+            draft.append(random, drawn);
+        }
+        if random.percent(10) {
+            draft.more = random.between(1, 9);
+        }
+        draft
+    }
+
+    /// The contents go to the end of the source.
+    fn append(&mut self, random: &mut Random, drawn: Drawn) {
+        let start = self.source.len() as u16;
+        let contents = random.octets(drawn.length);
+        self.source.extend(contents);
+        self.list.push([
+            drawn.number,
+            u16::from(drawn.constructor),
+            start,
+            drawn.length as u16,
+        ]);
+    }
+
+    fn any(&mut self, random: &mut Random) -> Option<&mut [u16; 4]> {
+        let count = self.list.len();
+        (count > 0).then(|| &mut self.list[random.below(count)])
+    }
+
+    fn entries(&self) -> usize {
+        self.claimed.unwrap_or(self.list.len())
+    }
+
+    fn table(&self, random: &mut Random) -> Vec<u16> {
+        let mut table = self.list.concat();
+        table.truncate(table.len().saturating_sub(self.missing));
+        for _ in 0..self.more {
+            table.push(random.draw() as u16);
+        }
+        table
+    }
+
+    /// The octets needed, as far as the writer gets to counting them.
+    fn needed(&self, table: &[u16]) -> Option<usize> {
+        match writer::write(self.head, self.entries(), table, &self.source, &mut []) {
+            Err(refusal) if refusal.number == 15 || refusal.number == 17 => {
+                Some(refusal.detail as usize)
+            }
+            _ => None,
+        }
+    }
+
+    /// Changes the filler's length until the writer needs the target, or
+    /// comes near it; the filler takes its contents from the source's start.
+    fn fit(&mut self, target: usize) {
+        let at = self.list.len() - 1;
+        for _ in 0..6 {
+            let table = self.list.concat();
+            let now = self.needed(&table).unwrap_or(target);
+            let wanted = (usize::from(self.list[at][3]) + target).saturating_sub(now);
+            self.list[at][3] = wanted.min(self.source.len()) as u16;
+        }
+    }
+
+    fn finish(self, random: &mut Random) -> WriteCase {
+        let table = self.table(random);
+        let output = match self.needed(&table) {
+            Some(needed) => output_length(random, needed.min(4200)),
+            None => random.below(80),
+        };
+        WriteCase {
+            head: self.head,
+            entries: self.entries(),
+            table,
+            source: self.source,
+            output,
+        }
+    }
+}
+
+/// Just long enough, longer, one octet short, or far too short.
+fn output_length(random: &mut Random, needed: usize) -> usize {
+    match random.below(100) {
+        0..=59 => needed,
+        60..=84 => needed + random.between(1, 20),
+        85..=93 => needed - 1,
+        94..=95 => 0,
+        _ => random.below(needed),
+    }
+}
+
+fn wrong_type(random: &mut Random, draft: &mut Draft) {
+    draft.head.kind = random.pick(&[0xE8, 0xEB, 0xEC, 0xC9, 0x69, 0x30, 0x00, 0xFF, 0xE9, 0xEA]);
+}
+
+fn wrong_id_count(random: &mut Random, draft: &mut Draft) {
+    draft.head.id_count = random.pick(&[0, 1, 2, 3, 3, 4, 127, 128, 255]);
+}
+
+/// A count that the table may or may not hold.
+fn claim_other(random: &mut Random, draft: &mut Draft) {
+    let count = draft.list.len();
+    draft.claimed = Some(match random.below(4) {
+        0 => count + 1,
+        1 => count.saturating_sub(1),
+        2 => random.below(count + 1),
+        _ => random.pick(&[63, 64, 65, 66]),
+    });
+}
+
+/// Counts of which four times would wrap to something small.
+fn claim_huge(random: &mut Random, draft: &mut Draft) {
+    let quarter = 1 << (usize::BITS - 2);
+    let counts = [
+        65,
+        256,
+        65536,
+        quarter,
+        quarter + 1,
+        usize::MAX,
+        usize::MAX - 1,
+    ];
+    draft.claimed = Some(random.pick(&counts));
+}
+
+fn short_table(random: &mut Random, draft: &mut Draft) {
+    draft.more = 0;
+    draft.missing = random.pick(&[1, 1, 1, 2, 3, 4, 5]);
+}
+
+fn no_table(_: &mut Random, draft: &mut Draft) {
+    draft.more = 0;
+    draft.missing = usize::MAX;
+}
+
+fn number_over(random: &mut Random, draft: &mut Draft) {
+    let number = random.pick(&[16384, 16384, 16385, 20000, 32768, 65535]);
+    if let Some(entry) = draft.any(random) {
+        entry[0] = number;
+    }
+}
+
+fn form_over(random: &mut Random, draft: &mut Draft) {
+    let form = random.pick(&[2, 2, 3, 32, 255, 256, 257, 65535]);
+    if let Some(entry) = draft.any(random) {
+        entry[1] = form;
+    }
+}
+
+/// One octet more than the source has.
+fn contents_just_past(random: &mut Random, draft: &mut Draft) {
+    let count = draft.source.len() as u16;
+    let start = random.below(draft.source.len() + 1) as u16;
+    if let Some(entry) = draft.any(random) {
+        entry[2] = start;
+        entry[3] = count - start + 1;
+    }
+}
+
+/// Sums at and over 65,536 too, which 16 bits would wrap.
+fn contents_far_past(random: &mut Random, draft: &mut Draft) {
+    let (start, length) = match random.below(5) {
+        0 => (65535, 65535),
+        1 => (65535, 1),
+        2 => (random.below(20) as u16, 65535),
+        3 => (65535, 0),
+        _ => (random.draw() as u16, random.draw() as u16),
+    };
+    if let Some(entry) = draft.any(random) {
+        entry[2] = start;
+        entry[3] = length;
+    }
+}
+
+/// No octets, but from a place past the source: outside as well.
+fn start_past(random: &mut Random, draft: &mut Draft) {
+    let start = (draft.source.len() + random.between(1, 3)) as u16;
+    if let Some(entry) = draft.any(random) {
+        entry[2] = start;
+        entry[3] = 0;
+    }
+}
+
+/// No octets at the source's very end: this fits.
+fn start_at_end(random: &mut Random, draft: &mut Draft) {
+    let start = draft.source.len() as u16;
+    if let Some(entry) = draft.any(random) {
+        entry[2] = start;
+        entry[3] = 0;
+    }
+}
+
+fn short_source(random: &mut Random, draft: &mut Draft) {
+    let count = draft.source.len();
+    let kept = if random.percent(50) {
+        count.saturating_sub(1)
+    } else {
+        random.below(count + 1)
+    };
+    draft.source.truncate(kept);
+}
+
+fn no_row(random: &mut Random, draft: &mut Draft) {
+    draft.head.specifier = draw_rowless(random, draft.head.kind);
+}
+
+fn insert(random: &mut Random, draft: &mut Draft, entry: [u16; 4]) {
+    let at = random.below(draft.list.len() + 1);
+    draft.list.insert(at, entry);
+}
+
+fn repeat_any(random: &mut Random, draft: &mut Draft) {
+    for _ in 0..random.between(1, 2) {
+        if let Some(entry) = draft.any(random) {
+            let again = *entry;
+            insert(random, draft, again);
+        }
+    }
+}
+
+fn drop_one(random: &mut Random, draft: &mut Draft) {
+    for _ in 0..random.between(1, 2) {
+        if !draft.list.is_empty() {
+            let at = random.below(draft.list.len());
+            draft.list.remove(at);
+        }
+    }
+}
+
+fn twin_instead(random: &mut Random, draft: &mut Draft) {
+    if let Some(entry) = draft.any(random) {
+        entry[1] ^= 1;
+    }
+}
+
+fn both_of_choice(random: &mut Random, draft: &mut Draft) {
+    let (first, second) = choice_members(draft.row).unwrap_or((8, 242));
+    for number in [first, second] {
+        if !draft.list.iter().any(|one| one[0] == number && one[1] == 0) {
+            let drawn = draw_named(random, number);
+            draft.append(random, drawn);
+            let entry = draft.list.pop().expect("just put there");
+            insert(random, draft, entry);
+        }
+    }
+}
+
+/// Contents anywhere in the source, over one another.
+fn overlapping(random: &mut Random, draft: &mut Draft) {
+    let count = draft.source.len();
+    for entry in &mut draft.list {
+        let start = random.below(count + 1);
+        entry[2] = start as u16;
+        entry[3] = random.below((count - start).min(12) + 1) as u16;
+    }
+}
+
+/// 63 to 66 entries.
+fn crowd(random: &mut Random, draft: &mut Draft) {
+    let count = random.pick(&[63, 64, 64, 65, 66]);
+    while draft.list.len() < count {
+        let mut drawn = draw_other(random, draft.row);
+        drawn.length = drawn.length.min(4);
+        draft.append(random, drawn);
+    }
+    if random.percent(70) {
+        random.shuffle(&mut draft.list);
+    }
+}
+
+/// A source of at least so many octets.
+fn lengthen(random: &mut Random, draft: &mut Draft, count: usize) {
+    let more = count.saturating_sub(draft.source.len());
+    let octets = random.octets(more);
+    draft.source.extend(octets);
+}
+
+/// A last entry that the row does not name.
+fn add_filler(random: &mut Random, draft: &mut Draft) {
+    let constructor = u16::from(random.percent(50));
+    draft.list.push([FILLER, constructor, 0, 0]);
+}
+
+/// Edges of the length forms.
+fn sized(random: &mut Random, draft: &mut Draft) {
+    lengthen(random, draft, 270);
+    add_filler(random, draft);
+    let target = match random.below(2) {
+        0 => random.between(124, 145),
+        _ => random.between(252, 280),
+    };
+    draft.fit(target);
+}
+
+/// Around 4,096 octets, mostly of many entries over one short source.
+fn sized_large(random: &mut Random, draft: &mut Draft) {
+    let target = random.pick(&[4094, 4095, 4096, 4096, 4097, 4097, 4098]);
+    if random.percent(80) {
+        lengthen(random, draft, 300);
+        fill_with(random, draft, 16, 230);
+    } else {
+        lengthen(random, draft, 4200);
+    }
+    add_filler(random, draft);
+    draft.fit(target);
+    if random.percent(15) {
+        damage(random, draft);
+    }
+}
+
+/// Fillers of this length that all take the source's start.
+fn fill_with(random: &mut Random, draft: &mut Draft, count: usize, length: u16) {
+    for _ in 0..count {
+        draft
+            .list
+            .push([FILLER, u16::from(random.percent(50)), 0, length]);
+    }
+}
+
+/// The set's or the body's length around 65,535: fields of 3 and of 4.
+fn beyond_65535(random: &mut Random, draft: &mut Draft) {
+    draft.list.truncate(12);
+    lengthen(random, draft, 1500);
+    fill_with(random, draft, 48, 1340);
+    add_filler(random, draft);
+    draft.fit(random_target(random));
+}
+
+fn random_target(random: &mut Random) -> usize {
+    if random.percent(90) {
+        random.between(65530, 65570)
+    } else {
+        random.between(60000, 66000)
+    }
+}
+
+/// Entries over a source of a few hundred octets, of any sum over 4,096.
+fn many_long(random: &mut Random, draft: &mut Draft) {
+    let length = random.between(100, 700);
+    lengthen(random, draft, length);
+    while draft.list.len() < 64 && random.percent(96) {
+        let number = random.pick(&[FILLER, 30, 31, 127, 128, 16383]);
+        draft.list.push([number, 1, 0, length as u16]);
+    }
+}
+
+fn many_long_damaged(random: &mut Random, draft: &mut Draft) {
+    many_long(random, draft);
+    damage(random, draft);
+}
+
+/// Up to 64 entries of 65,535 octets. The source is that long, so these
+/// cases stay few.
+fn longest(random: &mut Random, draft: &mut Draft) {
+    lengthen(random, draft, 65535);
+    let count = random.pick(&[1, 2, 63, 64]);
+    draft.list.clear();
+    fill_with(random, draft, count, 65535);
+    if random.percent(20) {
+        draft.list[0][2] = 1;
+    }
+}

@@ -1,0 +1,13 @@
+//! A second reader, writer and listing, made from the scope paper's text
+//! alone, with a seeded generator of cases and their expected outcomes.
+
+pub mod cases;
+pub mod corpus;
+pub mod generate;
+pub mod listing;
+pub mod random;
+pub mod reader;
+pub mod refusal;
+pub mod report;
+pub mod rows;
+pub mod writer;

@@ -1,0 +1,311 @@
+//! The reader: one component, checked from left to right.
+
+use crate::refusal::Refusal;
+use crate::rows::{self, Identifier, RowFault, INVOKE, RESULT};
+
+pub const LONGEST: usize = 4096;
+pub const MOST_PARAMETERS: usize = 64;
+pub const TABLE_NUMBERS: usize = 256;
+
+const COMPONENT_ID: u8 = 0xCF;
+const OPERATION_CODE: u8 = 0xD1;
+const PARAMETER_SET: u8 = 0xF2;
+const FAMILY: u8 = 9;
+
+#[derive(Clone, Copy, Debug, PartialEq, Eq)]
+pub struct Accepted {
+    pub kind: u8,
+    pub id_count: u8,
+    /// 0 where there is no such octet.
+    pub id: [u8; 2],
+    pub specifier: u8,
+    pub all: usize,
+    pub named: usize,
+    pub other: usize,
+}
+
+pub type Answer = Result<Accepted, Refusal>;
+
+/// Start and end of an element's contents.
+#[derive(Clone, Copy)]
+struct Contents {
+    start: usize,
+    end: usize,
+}
+
+impl Contents {
+    fn count(self) -> usize {
+        self.end - self.start
+    }
+}
+
+struct Parameter {
+    place: usize,
+    identifier: Identifier,
+    contents: Contents,
+}
+
+/// What stands before the parameter set, and the set's contents.
+struct Frame {
+    kind: u8,
+    id: Contents,
+    /// Place of the specifier, in an INVOKE only.
+    specifier: Option<usize>,
+    set: Contents,
+}
+
+/// Reads a component. `specifier` is the caller's and counts for a RESULT
+/// only. The table changes only when the component is accepted.
+pub fn read(component: &[u8], specifier: u8, table: &mut [u16]) -> Answer {
+    if table.len() < TABLE_NUMBERS {
+        return Err(Refusal::new(1, 0, "table"));
+    }
+    if component.is_empty() {
+        return Err(Refusal::new(2, 0, "empty"));
+    }
+    if component.len() > LONGEST {
+        return Err(Refusal::new(2, 0, "too long"));
+    }
+    let frame = read_frame(component)?;
+    let parameters = read_parameters(component, frame.set)?;
+    let accepted = ask_row(component, specifier, &frame, &parameters)?;
+    fill(table, &parameters);
+    Ok(accepted)
+}
+
+fn read_frame(component: &[u8]) -> Result<Frame, Refusal> {
+    let kind = component[0];
+    if kind != INVOKE && kind != RESULT {
+        return Err(Refusal::new(3, 0, "type"));
+    }
+    let body = contents_to_the_end(component, 0, 1, component.len())?;
+    let id = read_id(component, kind, body)?;
+    let (specifier, set_place) = if kind == INVOKE {
+        let operation = read_operation(component, id.end, body.end)?;
+        (Some(operation.start + 1), operation.end)
+    } else {
+        (None, id.end)
+    };
+    let set = read_set(component, set_place, body.end)?;
+    Ok(Frame {
+        kind,
+        id,
+        specifier,
+        set,
+    })
+}
+
+fn read_id(component: &[u8], kind: u8, body: Contents) -> Result<Contents, Refusal> {
+    let place = body.start;
+    if wanted(component, place, body.end)? != COMPONENT_ID {
+        return Err(Refusal::new(6, place, "identifier"));
+    }
+    let id = contents_within(component, place, place + 1, body.end)?;
+    let allowed = if kind == INVOKE { 0..=2 } else { 1..=1 };
+    if !allowed.contains(&id.count()) {
+        return Err(Refusal::new(6, place, "length"));
+    }
+    Ok(id)
+}
+
+fn read_operation(component: &[u8], place: usize, end: usize) -> Result<Contents, Refusal> {
+    if wanted(component, place, end)? != OPERATION_CODE {
+        return Err(Refusal::new(7, place, "identifier"));
+    }
+    let operation = contents_within(component, place, place + 1, end)?;
+    if operation.count() != 2 {
+        return Err(Refusal::new(7, place, "length"));
+    }
+    if component[operation.start] != FAMILY {
+        return Err(Refusal::new(7, place, "family"));
+    }
+    Ok(operation)
+}
+
+fn read_set(component: &[u8], place: usize, end: usize) -> Result<Contents, Refusal> {
+    if wanted(component, place, end)? != PARAMETER_SET {
+        return Err(Refusal::new(8, place, "identifier"));
+    }
+    contents_to_the_end(component, place, place + 1, end)
+}
+
+fn read_parameters(component: &[u8], set: Contents) -> Result<Vec<Parameter>, Refusal> {
+    let mut parameters = Vec::new();
+    let mut place = set.start;
+    while place < set.end {
+        // 10 comes before 9: the 65th is not looked at.
+        if parameters.len() == MOST_PARAMETERS {
+            return Err(Refusal::new(10, place, "65th"));
+        }
+        let (identifier, field) = read_identifier(component, place, set.end)?;
+        let contents = contents_within(component, place, field, set.end)?;
+        parameters.push(Parameter {
+            place,
+            identifier,
+            contents,
+        });
+        place = contents.end;
+    }
+    Ok(parameters)
+}
+
+/// The octet at a place where an element must begin.
+fn wanted(component: &[u8], place: usize, end: usize) -> Result<u8, Refusal> {
+    if place == end {
+        return Err(Refusal::new(5, place, "ended"));
+    }
+    Ok(component[place])
+}
+
+/// A parameter identifier; answers also the place behind it.
+fn read_identifier(
+    component: &[u8],
+    place: usize,
+    end: usize,
+) -> Result<(Identifier, usize), Refusal> {
+    let first = component[place];
+    if first & 0xC0 != 0x80 {
+        return Err(Refusal::new(9, place, "class"));
+    }
+    let constructor = first & 0x20 != 0;
+    let low = first & 0x1F;
+    let (number, behind) = if low < 0x1F {
+        (u16::from(low), place + 1)
+    } else {
+        read_run(component, place, end)?
+    };
+    let identifier = Identifier {
+        number,
+        constructor,
+    };
+    Ok((identifier, behind))
+}
+
+/// The number that follows an identifier octet whose low five bits are ones.
+fn read_run(component: &[u8], place: usize, end: usize) -> Result<(u16, usize), Refusal> {
+    let run = &component[place + 1..end];
+    match *run {
+        [] => Err(Refusal::new(9, place, "cut")),
+        [0x80, ..] => Err(Refusal::new(9, place, "leading 80")),
+        [only, ..] if only < 31 => Err(Refusal::new(9, place, "below 31")),
+        [only, ..] if only < 0x80 => Ok((u16::from(only), place + 2)),
+        [_] => Err(Refusal::new(9, place, "cut")),
+        [high, low, ..] if low < 0x80 => {
+            let number = u16::from(high & 0x7F) << 7 | u16::from(low);
+            Ok((number, place + 3))
+        }
+        _ => Err(long_run(run, place)),
+    }
+}
+
+/// A run of more than two octets. The paper's form allows no longer run, so
+/// it is ill formed (9), and as 18 is asked after 9, no 18 is left: two
+/// octets cannot hold a number over 16,383.
+fn long_run(run: &[u8], place: usize) -> Refusal {
+    let ends = run.iter().any(|octet| *octet < 0x80);
+    Refusal::new(9, place, if ends { "long run" } else { "cut" })
+}
+
+/// The contents of the element at `place` with its length field at `field`;
+/// they may not run past `end`, where the parent ends.
+fn contents_within(
+    component: &[u8],
+    place: usize,
+    field: usize,
+    end: usize,
+) -> Result<Contents, Refusal> {
+    let (length, start) = read_length(&component[..end], field)?;
+    if length > end - start {
+        return Err(Refusal::new(5, place, "overrun"));
+    }
+    Ok(Contents {
+        start,
+        end: start + length,
+    })
+}
+
+/// As above, for E9, EA and F2, which must end where the parent ends.
+fn contents_to_the_end(
+    component: &[u8],
+    place: usize,
+    field: usize,
+    end: usize,
+) -> Result<Contents, Refusal> {
+    let contents = contents_within(component, place, field, end)?;
+    if contents.end < end {
+        return Err(Refusal::new(5, contents.end, "left over"));
+    }
+    Ok(contents)
+}
+
+/// A length field in `parent`, which ends with the parent; answers the
+/// length and the place behind the field.
+fn read_length(parent: &[u8], field: usize) -> Result<(usize, usize), Refusal> {
+    match parent[field..] {
+        [] => Err(Refusal::new(4, field, "cut")),
+        [length @ 0x00..=0x7F, ..] => Ok((usize::from(length), field + 1)),
+        [0x81] | [0x82] | [0x82, _] => Err(Refusal::new(4, field, "cut")),
+        [0x81, 0x00..=0x7F, ..] | [0x82, 0x00, ..] => Err(Refusal::new(4, field, "not shortest")),
+        [0x81, length, ..] => Ok((usize::from(length), field + 2)),
+        [0x82, high, low, ..] => Ok((usize::from(high) << 8 | usize::from(low), field + 3)),
+        _ => Err(Refusal::new(4, field, "form")),
+    }
+}
+
+/// Asks 11 to 14 and makes the accepted answer.
+fn ask_row(component: &[u8], specifier: u8, frame: &Frame, parameters: &[Parameter]) -> Answer {
+    let specifier = match frame.specifier {
+        Some(place) => component[place],
+        None => specifier,
+    };
+    let row = rows::find(frame.kind, specifier)
+        .ok_or_else(|| Refusal::new(11, frame.specifier.unwrap_or(0), "row"))?;
+    let list: Vec<Identifier> = parameters.iter().map(|one| one.identifier).collect();
+    row.check(&list).map_err(|fault| match fault {
+        RowFault::Repeat(index) => Refusal::new(12, parameters[index].place, "again"),
+        RowFault::Missing(number) => Refusal::new(13, usize::from(number), "missing"),
+        RowFault::Both(index) => Refusal::new(14, parameters[index].place, "both"),
+    })?;
+    let named = row.count_named(&list);
+    let mut id = [0; 2];
+    let count = frame.id.count();
+    id[..count].copy_from_slice(&component[frame.id.start..frame.id.end]);
+    Ok(Accepted {
+        kind: frame.kind,
+        id_count: count as u8,
+        id,
+        specifier,
+        all: list.len(),
+        named,
+        other: list.len() - named,
+    })
+}
+
+/// Four numbers a parameter; the numbers behind them stay.
+fn fill(table: &mut [u16], parameters: &[Parameter]) {
+    for (numbers, one) in table.chunks_exact_mut(4).zip(parameters) {
+        // Starts and lengths lie below 4,097.
+        numbers[0] = one.identifier.number;
+        numbers[1] = u16::from(one.identifier.constructor);
+        numbers[2] = one.contents.start as u16;
+        numbers[3] = one.contents.count() as u16;
+    }
+}
+
+/// Octet 0 the answer; accepted, octets 1 to 7 are type, count of ID octets,
+/// the two ID octets, specifier, count of all and count of named.
+pub fn packed(answer: &Answer) -> u64 {
+    match answer {
+        Err(refusal) => refusal.packed(),
+        Ok(accepted) => u64::from_le_bytes([
+            0,
+            accepted.kind,
+            accepted.id_count,
+            accepted.id[0],
+            accepted.id[1],
+            accepted.specifier,
+            accepted.all as u8,
+            accepted.named as u8,
+        ]),
+    }
+}

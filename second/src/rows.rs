@@ -1,0 +1,151 @@
+//! The operation rows and the questions asked of them (11 to 14).
+
+pub const INVOKE: u8 = 0xE9;
+pub const RESULT: u8 = 0xEA;
+
+/// Digits is the only named parameter that may repeat.
+pub const DIGITS: u16 = 4;
+
+/// One place of the column "Must occur, in this order".
+#[derive(Debug)]
+pub enum Must {
+    One(u16),
+    Either(u16, u16),
+}
+
+#[derive(Debug)]
+pub struct Row {
+    pub kind: u8,
+    pub specifier: u8,
+    pub must: &'static [Must],
+    pub also: &'static [u16],
+}
+
+use Must::{Either, One};
+
+const fn row(kind: u8, specifier: u8, must: &'static [Must], also: &'static [u16]) -> Row {
+    Row {
+        kind,
+        specifier,
+        must,
+        also,
+    }
+}
+
+/// In the order of the paper, HandoffBack INVOKE first.
+pub static ROWS: [Row; 12] = [
+    row(INVOKE, 4, &[One(5), One(6), One(8), One(2), One(3)], &[1]),
+    row(RESULT, 4, &[One(5)], &[]),
+    row(
+        INVOKE,
+        13,
+        &[One(9), Either(8, 242), One(21), One(17), One(22)],
+        &[32, 123],
+    ),
+    row(RESULT, 13, &[One(22)], &[]),
+    row(RESULT, 14, &[], &[]),
+    row(INVOKE, 15, &[One(1), One(4), One(21), One(22)], &[32, 123]),
+    row(RESULT, 26, &[], &[]),
+    row(INVOKE, 32, &[One(1), One(9), One(8)], &[21, 22, 32, 242]),
+    row(INVOKE, 37, &[One(1), One(6), One(2)], &[242]),
+    row(RESULT, 64, &[], &[4]),
+    row(INVOKE, 101, &[One(105), One(116)], &[8, 9, 242]),
+    row(RESULT, 101, &[], &[105, 153]),
+];
+
+/// An identifier as the rows see it: all named parameters are primitive, so
+/// the same number with the constructor bit is never named.
+#[derive(Clone, Copy, Debug, PartialEq, Eq)]
+pub struct Identifier {
+    pub number: u16,
+    pub constructor: bool,
+}
+
+/// The refusals 12, 13 and 14. Repeat and Both hold the index of the
+/// parameter in order of occurrence; the reader turns it into a place.
+#[derive(Debug, PartialEq, Eq)]
+pub enum RowFault {
+    Repeat(usize),
+    Missing(u16),
+    Both(usize),
+}
+
+pub fn find(kind: u8, specifier: u8) -> Option<&'static Row> {
+    ROWS.iter()
+        .find(|row| row.kind == kind && row.specifier == specifier)
+}
+
+impl Must {
+    fn holds(&self, number: u16) -> bool {
+        match *self {
+            One(only) => only == number,
+            Either(first, second) => first == number || second == number,
+        }
+    }
+}
+
+impl Row {
+    /// Named: it stands in either column, each member of a choice included.
+    pub fn names(&self, identifier: Identifier) -> bool {
+        let number = identifier.number;
+        !identifier.constructor
+            && (self.must.iter().any(|must| must.holds(number)) || self.also.contains(&number))
+    }
+
+    pub fn count_named(&self, list: &[Identifier]) -> usize {
+        list.iter().filter(|entry| self.names(**entry)).count()
+    }
+
+    /// Asks 12, then 13, then 14.
+    pub fn check(&self, list: &[Identifier]) -> Result<(), RowFault> {
+        self.check_repeats(list)?;
+        self.check_missing(list)?;
+        self.check_choices(list)
+    }
+
+    fn check_repeats(&self, list: &[Identifier]) -> Result<(), RowFault> {
+        for (index, entry) in list.iter().enumerate() {
+            let counted = self.names(*entry) && entry.number != DIGITS;
+            if counted && list[..index].contains(entry) {
+                return Err(RowFault::Repeat(index));
+            }
+        }
+        Ok(())
+    }
+
+    fn check_missing(&self, list: &[Identifier]) -> Result<(), RowFault> {
+        for must in self.must {
+            let (first, occurs) = match *must {
+                One(only) => (only, position(list, only).is_some()),
+                Either(first, second) => (
+                    first,
+                    position(list, first).is_some() || position(list, second).is_some(),
+                ),
+            };
+            if !occurs {
+                return Err(RowFault::Missing(first));
+            }
+        }
+        Ok(())
+    }
+
+    fn check_choices(&self, list: &[Identifier]) -> Result<(), RowFault> {
+        for must in self.must {
+            if let Either(first, second) = *must {
+                if let (Some(one), Some(other)) = (position(list, first), position(list, second)) {
+                    return Err(RowFault::Both(one.max(other)));
+                }
+            }
+        }
+        Ok(())
+    }
+}
+
+/// Where the primitive parameter of this number first occurs.
+fn position(list: &[Identifier], number: u16) -> Option<usize> {
+    let wanted = Identifier {
+        number,
+        constructor: false,
+    };
+    list.iter().position(|entry| *entry == wanted)
+}
