@@ -7,6 +7,7 @@ pub mod Entries
 pub mod LineCode
 pub mod Repeats
 pub mod RowWalk
+pub mod Noting
 pub mod Verdicts
 pub mod Readings
 pub mod Places

@@ -2,7 +2,7 @@
 -- Assumes nothing.
 use Prim.Native.Nat.{ℕ, _+_, _<_, _≤_}
 use mathlib.Core.Path.{_≡_, refl, ap}
-use mathlib.Core.Bool.{Bool, true, false, _&&_, not, and-false}
+use mathlib.Core.Bool.{true, false, _&&_, not, and-false}
 use mathlib.Core.List.{List, _∷_}
 use borrow.Author.Tests.{eq-eqb, ne-eqb}
 use native.Mathlib.Omega.{arith}
@@ -45,16 +45,16 @@ module _ (row : Row) (t : List ℕ) (count : ℕ) where
     unfolding left once countNamed
     ends h = rw (over t count at h) (simp add-zero)
 
-    module _ (h : at < count) {k : ℕ} (f : k ≡ itemAt t at .is) {r : Bool} (g : r ≡ named row k) where
-      pub unnamed : r ≡ false → left row t count n (at + 1) ≡ left row t count n at
+    module _ (h : at < count) {k : ℕ} (f : k ≡ itemAt t at .is) where
+      pub unnamed : false ≡ named row k → left row t count n (at + 1) ≡ left row t count n at
       unfolding left once countNamed
-      unnamed e = rw (more t count at h, one-more t at) (simp (← f, ← g, e))
+      unnamed e = rw (more t count at h, one-more t at) (simp (← f, ← e))
 
-      module _ (e : r ≡ true) where
+      module _ (e : true ≡ named row k) where
         pub fresh : (not (repeats k) && occurs k (earlier t at)) ≡ false → left row t count (n + 1) (at + 1) ≡ left row t count n at
         unfolding left once countNamed
-        fresh o = rw (more t count at h, one-more t at) (simp (← f, ← g, e, o) (one-named n (countNamed row (rest t count (at + 1))) (once row (itemAt t at ∷ earlier t at) (rest t count (at + 1)))))
+        fresh o = rw (more t count at h, one-more t at) (simp (← f, ← e, o) (one-named n (countNamed row (rest t count (at + 1))) (once row (itemAt t at ∷ earlier t at) (rest t count (at + 1)))))
 
         pub again : repeats k ≡ false → true ≡ occurs k (earlier t at) → refused 12 at ≡ left row t count n at
         unfolding left once itemAt
-        again d o = rw (more t count at h) (simp (← f, ← g, e, d, ← o))
+        again d o = rw (more t count at h) (simp (← f, ← e, d, ← o))

@@ -7,11 +7,13 @@ use mathlib.Core.List.{List, [], _∷_}
 use lib.ListN.{length, getD, drop, drop-of-length-le}
 use lib.Seq.{drop-cons}
 use native.Mathlib.Omega.{arith}
+use native.Mathlib.Nat.{add-zero}
 use native.Mathlib.Numerals.{add-one}
 use Rattle.element.specs.Answer.{accepted, refused}
-use Rattle.operation.specs.Row.{Row, Line, Item, onLine, named, occurs, lastMark, present, single, numberOf}
+use Rattle.operation.specs.Row.{Row, Line, must, oneOf, may, Item, onLine, occurs, lastMark, single, numberOf}
 use Rattle.operation.specs.Coded.{lineIn, rowIn}
-use Rattle.operation.proofs.LineCode.{by-line, allows, asks, chooses}
+use Rattle.operation.specs.Noting.{lineOf, asked}
+use Rattle.operation.proofs.LineCode.{by-line, allows, chooses}
 
 -- the lines from `at` on
 abbrev pub rowFrom : (row : List ℕ) (at : ℕ) → Row
@@ -25,66 +27,63 @@ pub line-at : (row : List ℕ) (at : ℕ) → at < length row → rowFrom row at
 unfolding rowIn
 line-at row at h = rw (add-one, drop-cons row at 0 h)
 
--- ---- whether the row names a key
+-- ---- the line of a key, `at` lines behind the row's first
 
-pub unnamed : {row : Row} (k : ℕ) → row ≡ [] → false ≡ named row k
-unfolding named
-unnamed k e = rw e
+module _ (at k : ℕ) where
+  pub no-line : {row : Row} → row ≡ [] → at ≡ at + lineOf row k
+  unfolding lineOf
+  no-line e = rw e (simp add-zero)
 
-module _ {row ls : Row} {l : Line} (e : row ≡ l ∷ ls) (k : ℕ) {r : Bool} (f : r ≡ onLine l k) where
-  pub named-here : r ≡ true → true ≡ named row k
-  unfolding named
-  named-here h = rw e (simp (← f, h))
+  module _ {row ls : Row} {l : Line} (e : row ≡ l ∷ ls) {r : Bool} (f : r ≡ onLine l k) where
+    pub line-here : r ≡ true → at ≡ at + lineOf row k
+    unfolding lineOf
+    line-here h = rw e (simp (← f, h, add-zero))
 
-  pub named-on : r ≡ false → named ls k ≡ named row k
-  unfolding named
-  named-on h = rw e (simp (← f, h))
+    pub line-on : r ≡ false → at + 1 + lineOf ls k ≡ at + lineOf row k
+    unfolding lineOf
+    line-on h = rw e (simp (← f, h) (omega arith))
 
 -- ---- 13 and 14
 
-module _ (xs : List Item) where
-  pub all-present : {row : Row} → row ≡ [] → accepted tt ≡ present row xs
-  unfolding present
-  all-present e = rw e
+-- by the lines that were met
+module _ (met : List Bool) (at : ℕ) where
+  pub all-met : {row : Row} → row ≡ [] → accepted tt ≡ asked row met at
+  unfolding asked
+  all-met e = rw e
 
+  pub met-here : {row ls : Row} (l : Line) → row ≡ l ∷ ls → getD met at false ≡ true → asked ls met (at + 1) ≡ asked row met at
+  unfolding asked
+  met-here (must j) e h = rw (e, h)
+  met-here (oneOf i j) e h = rw (e, h)
+  met-here (may j) e h = rw e
+
+  -- at the line of `n`
+  module _ {row ls : Row} {n : ℕ} (e : row ≡ lineIn n ∷ ls) where
+    pub not-asked : n < 4294967296 → asked ls met (at + 1) ≡ asked row met at
+    unfolding asked
+    not-asked h = rw (e, allows n h)
+
+    pub lacks : getD met at false ≡ false → 4294967296 ≤ n → refused 13 (n % 65536 / 2) ≡ asked row met at
+    unfolding asked numberOf
+    lacks h k = rw e (by-line n (λ l. refused 13 (n % 65536 / 2) ≡ asked (l ∷ ls) met at) (λ a. absurd (omega arith)) (λ _ _. rw h) (λ _. rw h))
+
+module _ (xs : List Item) where
   pub all-single : {row : Row} → row ≡ [] → accepted tt ≡ single row xs
   unfolding single
   all-single e = rw e
 
   -- at the line of `n`, of whose members the first occurs where `a` is true, and the second where `b` is
   module _ {row ls : Row} {n : ℕ} (e : row ≡ lineIn n ∷ ls) where
-    pub not-asked : n < 4294967296 → present ls xs ≡ present row xs
-    unfolding present
-    not-asked h = rw (e, allows n h)
-
     pub no-choice : n < 8589934592 → single ls xs ≡ single row xs
     unfolding single
     no-choice h = rw e (by-line n (λ l. single ls xs ≡ single (l ∷ ls) xs) (λ _. refl) (λ _ _. refl) (λ k. absurd (omega arith)))
 
     module _ {a : Bool} (f : a ≡ occurs (n % 65536) xs) where
-      pub has-first : 4294967296 ≤ n → a ≡ true → present ls xs ≡ present row xs
-      unfolding present
-      has-first h p =
-          let o : occurs (n % 65536) xs ≡ true = cc in
-          rw e (by-line n (λ l. present ls xs ≡ present (l ∷ ls) xs) (λ k. absurd (omega arith)) (λ _ _. rw o) (λ _. rw o))
-
-      pub lacks : 4294967296 ≤ n → n < 8589934592 → a ≡ false → refused 13 (n % 65536 / 2) ≡ present row xs
-      unfolding present numberOf
-      lacks g h p = rw (e, asks n g h) (simp (← f, p))
-
       pub not-first : 8589934592 ≤ n → a ≡ false → single ls xs ≡ single row xs
       unfolding single
       not-first h p = rw (e, chooses n h) (simp (← f, p))
 
       module _ (h : 8589934592 ≤ n) {b : Bool} (g : b ≡ occurs (n / 65536 % 65536) xs) where
-        pub has-second : a ≡ false → b ≡ true → present ls xs ≡ present row xs
-        unfolding present
-        has-second p q = rw (e, chooses n h) (simp (← f, ← g, p, q))
-
-        pub lacks-both : a ≡ false → b ≡ false → refused 13 (n % 65536 / 2) ≡ present row xs
-        unfolding present numberOf
-        lacks-both p q = rw (e, chooses n h) (simp (← f, ← g, p, q))
-
         pub not-second : a ≡ true → b ≡ false → single ls xs ≡ single row xs
         unfolding single
         not-second p q = rw (e, chooses n h) (simp (← f, ← g, p, q))

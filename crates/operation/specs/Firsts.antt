@@ -17,7 +17,7 @@ onceCounted row xs = do
   accepted (countNamed row xs)
 
 abbrev pub repeatIn : R.Repeat → Answer ℕ
-repeatIn (RV.None named) = accepted named
+repeatIn (RV.None named shared) = accepted named
 repeatIn (RV.At entry) = refused 12 entry
 
 abbrev pub missingIn : M.Missing → Answer Unit

@@ -5,6 +5,7 @@ pub mod Newcomers
 pub mod Points
 pub mod Coded
 pub mod Firsts
+pub mod Noting
 pub mod Reading
 pub mod Writing
 pub mod Told

@@ -9,10 +9,12 @@ use super::rows::ONE_OF;
 use super::rows::OR;
 ghost use mathlib.Core.Path.{_≡_};
 ghost use Prim.Native.Nat.{_+_, _*_, _<_, _≤_};
-ghost use lib.ListN.{length};
-ghost use Rattle.operation.specs.Row.{onLine, named, occurs, lastMark, present, single};
+ghost use mathlib.Core.Bool.{true, false};
+ghost use lib.ListN.{length, replicate};
+ghost use Rattle.operation.specs.Row.{onLine, occurs, lastMark, single};
 ghost use Rattle.operation.specs.Coded.{lineIn, rowIn, itemAt, itemsFrom, judgement, judgedIn};
 ghost use Rattle.operation.specs.Firsts.{onceCounted, repeatIn, missingIn, bothIn};
+ghost use Rattle.operation.specs.Noting.{lineOf, distinct, asked, Noted};
 
 // ---- a line of a row, and an entry of a table
 
@@ -44,17 +46,18 @@ fn line_names(line: u64, key: u64) -> bool
     key == line / OR % OR
 }
 
-fn row_names(row: &[u64], key: u64) -> bool
-    ensures { λ r. ⌜ r ≡ named (rowIn (now (row .entry))) key ⌝ }
+// The first line that names the key; none: how many lines there are.
+fn row_line(row: &[u64], key: u64) -> usize
+    ensures { λ r. ⌜ r ≡ lineOf (rowIn (now (row .entry))) key ⌝ }
 {
     let mut at: usize = 0;
     while at < row.len() {
         if line_names(row[at], key) {
-            return true;
+            return at;
         }
         at = at + 1;
     }
-    false
+    at
 }
 
 fn occurs(table: &[u16], key: u64, count: usize) -> bool
@@ -90,40 +93,49 @@ fn last_on(line: u64, table: &[u16], count: usize) -> usize
 
 // ---- the judgement
 
-// 12: the first entry that occurred before, of those that the row names and may not repeat.
-fn first_repeat(row: &[u64], table: &[u16], count: usize) -> Repeat
-    requires { ⌜ (4 * count ≤ length (now table)) × (count ≤ 64) ⌝ }
-    ensures { λ r. ⌜ repeatIn r ≡ onceCounted (rowIn (now (row .entry))) (itemsFrom (now (table .entry)) 0 count) ⌝ }
+// 12: the first entry that occurred before, of those that the row names and may not repeat. It notes the lines that it
+// meets, and an entry whose line was not met did not occur before.
+fn first_repeat(row: &[u64], table: &[u16], count: usize, met: &mut [bool]) -> Repeat
+    requires { ⌜ (4 * count ≤ length (now table)) × (count ≤ 64)
+        × (length (now row) ≤ 8) × (now met ≡ replicate 8 false) ⌝ }
+    ensures { λ r. ⌜ (repeatIn r ≡ onceCounted (rowIn (now (row .entry))) (itemsFrom (now (table .entry)) 0 count))
+        × Noted r (now (row .entry)) (now (met .exit)) (itemsFrom (now (table .entry)) 0 count) ⌝ }
 {
     let mut at: usize = 0;
     let mut named: usize = 0;
+    let mut shared = false;
     let answer = 'parameters: loop {
         if count <= at {
-            break 'parameters Repeat::None { named };
+            break 'parameters Repeat::None { named, shared };
         }
         let next = at + 1;
         let key = key_at(table, at);
-        if row_names(row, key) {
+        let line = row_line(row, key);
+        if line < row.len() {
             named = named + 1;
-            if key != DIGITS {
-                let mut before = at;
-                while 0 < before {
-                    before = before - 1;
-                    if key_at(table, before) == key {
-                        break 'parameters Repeat::At(at);
+            if met[line] {
+                shared = true;
+                if key != DIGITS {
+                    let mut before = at;
+                    while 0 < before {
+                        before = before - 1;
+                        if key_at(table, before) == key {
+                            break 'parameters Repeat::At(at);
+                        }
                     }
                 }
             }
+            met[line] = true;
         }
         at = next;
     };
     answer
 }
 
-// 13: the first line of which nothing occurs.
-fn first_missing(row: &[u64], table: &[u16], count: usize) -> Missing
-    requires { ⌜ (4 * count ≤ length (now table)) × (count ≤ 64) ⌝ }
-    ensures { λ r. ⌜ missingIn r ≡ present (rowIn (now (row .entry))) (itemsFrom (now (table .entry)) 0 count) ⌝ }
+// 13: the first line that must be met and was not.
+fn first_missing(row: &[u64], met: &[bool]) -> Missing
+    requires { ⌜ length (now row) ≤ length (now met) ⌝ }
+    ensures { λ r. ⌜ missingIn r ≡ asked (rowIn (now (row .entry))) (now (met .entry)) 0 ⌝ }
 {
     let mut at: usize = 0;
     let answer = 'lines: loop {
@@ -131,19 +143,13 @@ fn first_missing(row: &[u64], table: &[u16], count: usize) -> Missing
             break 'lines Missing::None;
         }
         let next = at + 1;
-        let line = row[at];
-        if MUST <= line {
-            let first = line % OR;
-            if !occurs(table, first, count) {
-                if line < ONE_OF {
-                    break 'lines Missing::Number((first / 2) as u16);
-                } else {
-                    // Of a choice, the other member will do.
-                    let second = line / OR % OR;
-                    if !occurs(table, second, count) {
-                        break 'lines Missing::Number((first / 2) as u16);
-                    }
-                }
+        if !met[at] {
+            let line = row[at];
+            if MUST <= line {
+                // Of a choice, the first member.
+                let first = line % OR;
+                let number = (first / 2) as u16;
+                break 'lines Missing::Number(number);
             }
         }
         at = next;
@@ -177,17 +183,25 @@ fn first_both(row: &[u64], table: &[u16], count: usize) -> Both
 
 // What a row says of `count` entries of a table.
 pub(crate) fn judge_entries(row: &[u64], table: &[u16], count: usize) -> Judged
-    requires { ⌜ (4 * count ≤ length (now table)) × (count ≤ 64) ⌝ }
+    requires { ⌜ (4 * count ≤ length (now table)) × (count ≤ 64)
+        × (length (now row) ≤ 8) × (distinct (rowIn (now row)) ≡ true) ⌝ }
     ensures { λ r. ⌜ judgedIn r ≡ judgement (rowIn (now (row .entry))) (itemsFrom (now (table .entry)) 0 count) ⌝ }
 {
-    match first_repeat(row, table, count) {
+    let mut met = [false; 8];
+    match first_repeat(row, table, count, &mut met) {
         Repeat::At(entry) => Judged::Again(entry),
-        Repeat::None { named } => match first_missing(row, table, count) {
+        Repeat::None { named, shared } => match first_missing(row, &met) {
             Missing::Number(number) => Judged::Missing(number),
-            Missing::None => match first_both(row, table, count) {
-                Both::At(entry) => Judged::Both(entry),
-                Both::None => Judged::Fits(named),
-            },
+            Missing::None => {
+                // The members of a choice share its line.
+                if !shared {
+                    return Judged::Fits(named);
+                }
+                match first_both(row, table, count) {
+                    Both::At(entry) => Judged::Both(entry),
+                    Both::None => Judged::Fits(named),
+                }
+            }
         },
     }
 }

@@ -56,9 +56,10 @@ pub enum Writing {
     Refused { number: u8, detail: u32 },
 }
 
-// What the row names and occurs again, and is not Digits; else how many of the parameters the row names.
+// What the row names and occurs again, and is not Digits; else how many of the parameters the row names, and whether two of
+// them share a line.
 enum Repeat {
-    None { named: usize },
+    None { named: usize, shared: bool },
     At(usize),
 }
 

@@ -2,9 +2,10 @@
 -- Assumes nothing.
 use mathlib.Core.Path.{refl}
 use borrow.Author.Needs.{needs}
-use Rattle.operation.specs.Row.{key}
+use Rattle.operation.specs.Row.{key, onLine}
 use Rattle.operation.specs.Rows.{rowOf, find, operations}
 use Rattle.operation.specs.Coded.{lineIn, rowIn}
+use Rattle.operation.specs.Noting.{lineOf, first, firstFrom, distinct}
 use Rattle.operation.proofs.Verdicts.{found, no-invoke}
 use Rattle.operation.proofs.rows.judge_invoke.Statement.{statement}
 use Rattle.operation.proofs.rows.judge_invoke.Tie as tie
@@ -36,8 +37,9 @@ returns-6 c = found _ 0xE9 (c .before .before .match .keys6) refl (c .judge-entr
 returns-7 : tie.Need-returns-7
 returns-7 c = no-invoke _ (c .match .rest)
 
--- the length of each row, and what is required of the table
+-- the length of each row, that its lines are distinct, and what is required of the table
 pub judge-invoke-spec : {M : Type 1} → statement M
+unfolding distinct firstFrom first lineOf onLine rowIn lineIn
 judge-invoke-spec =
     tie.close
     (tie.spec
