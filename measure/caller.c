@@ -5,7 +5,7 @@
  *   caller marked FUNCTION CASE [FILE]         a round between two calls of `mark`, after one that warms up
  *   caller time FUNCTION CASE [FILE]           nanoseconds a call
  *   caller size CASE [FILE]                    octets, parameters, components
- *   caller stack FUNCTION CASE                 how deep the stack was touched, in octets
+ *   caller stack FUNCTION CASE [FILE]          how deep a call touched the stack at most, in octets
  *
  * FUNCTION is read, write, plain or none. CASE is a name from `make`, or `mixed`:
  * the reads of a stream of the second program, 7 accepted for 3 refused, and
@@ -392,13 +392,26 @@ static __attribute__((noinline)) size_t touched(uintptr_t top)
     return (size_t)(top - (uintptr_t)place);
 }
 
-static __attribute__((noinline)) size_t stack(char function)
+static __attribute__((noinline)) size_t stack(char function, const struct call *c)
 {
     uintptr_t top = (uintptr_t)__builtin_frame_address(0);
 
     paint();
-    sink += call(function, &calls[0]);
+    sink += call(function, c);
     return touched(top);
+}
+
+static size_t deepest(char function)
+{
+    size_t most = 0, i;
+
+    for (i = 0; i < call_count; i++) {
+        size_t one = stack(function, &calls[i]);
+
+        if (one > most)
+            most = one;
+    }
+    return most;
 }
 
 int main(int count, char **words)
@@ -426,7 +439,7 @@ int main(int count, char **words)
     } else if (sized) {
         printf("%zu %zu %zu\n", calls[0].count, calls[0].entries, call_count);
     } else if (strcmp(what, "stack") == 0) {
-        printf("%zu\n", stack(function));
+        printf("%zu\n", deepest(function));
     } else {
         stop("no such word");
     }

@@ -17,8 +17,7 @@ function axis(kind, left, title, most, step,    v, x, y) {
         for (n = 1; n <= points[kind, name[i]]; n++)
             printf "%.1f,%.1f ", left + width * px[kind, name[i], n] / most, top + height - height * py[kind, name[i], n] / high[kind]
         print "'/>"
-        n = points[kind, name[i]]
-        printf "<text x='%d' y='%.1f' fill='%s'>%s</text>\n", left + width + 6, top + height - height * py[kind, name[i], n] / high[kind] + 4, colour[i], shown[i]
+        printf "<text x='%d' y='%d' text-anchor='end' fill='%s'>%s</text>\n", left + width - 8, top + height - 8 - 16 * (3 - i), colour[i], shown[i]
     }
 }
 BEGIN {
@@ -39,8 +38,8 @@ END {
         while (largest[k] / tick[k] > 6) tick[k] *= 2
         high[k] = tick[k] * int((largest[k] + tick[k] - 1) / tick[k])
     }
-    print "<svg xmlns='http://www.w3.org/2000/svg' width='1160' height='360' font-family='sans-serif' font-size='12'>"
-    print "<rect width='1160' height='360' fill='white'/>"
+    print "<svg xmlns='http://www.w3.org/2000/svg' width='1060' height='360' font-family='sans-serif' font-size='12'>"
+    print "<rect width='1060' height='360' fill='white'/>"
     axis("p", 70, "x86-64 instructions by parameters, three octets each", 64, 16)
     axis("o", 640, "x86-64 instructions by octets, 16 parameters", 4096, 1024)
     print "</svg>"

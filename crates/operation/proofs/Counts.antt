@@ -1,5 +1,5 @@
--- How much an accepted answer counts: a reading at most 64 parameters, a writing at most 4,096 octets.
-use Prim.Native.Nat.{ℕ, _≤_}
+-- How much an accepted answer counts: a reading at most 64 parameters, each of them named or other; a writing at most 4,096 octets.
+use Prim.Native.Nat.{ℕ, _+_, _≤_}
 use mathlib.Core.Path.{_≡_, sym, ap}
 use mathlib.Core.Bool.{Bool, true, false}
 use mathlib.Core.List.{List, map}
@@ -31,10 +31,10 @@ inner : {A : Type 0} {x y : A} → accepted x ≡ accepted y → x ≡ y
 inner e = cc
 
 module _ (s : Octets) (given room : ℕ) (o : AreOctets s) where
-  shown : (l : Layout) (row : Row) {x : Shown} → layoutOf s ≡ accepted l → shownBy s l given row ≡ x → (length (x .entries) ≤ 64) × (x .named ≤ length (x .entries))
+  shown : (l : Layout) (row : Row) {x : Shown} → layoutOf s ≡ accepted l → shownBy s l given row ≡ x → (length (x .entries) ≤ 64) × (x .named + x .other ≡ length (x .entries))
   shown l row e f = rw (← f) (few s e o, omega (arith, all-counted row (map itemOf (l .entries)), length-map (l .entries) itemOf))
 
-  few-shown : {x : Shown} → reading s given room ≡ accepted x → (length (x .entries) ≤ 64) × (x .named ≤ length (x .entries))
+  few-shown : {x : Shown} → reading s given room ≡ accepted x → (length (x .entries) ≤ 64) × (x .named + x .other ≡ length (x .entries))
   unfolding reading
   few-shown e =
       let (_, f) = passed (leb 256 room) 1 0 e in
@@ -43,7 +43,7 @@ module _ (s : Octets) (given room : ℕ) (o : AreOctets s) where
       let (_, _, m) = taken (judge row (map itemOf (l .entries))) k in
       shown l row g (inner m)
 
-  pub read : {x : Told} → accepted x ≡ told (reading s given room) → (x .all ≤ 64) × (x .named ≤ x .all)
+  pub read : {x : Told} → accepted x ≡ told (reading s given room) → (x .all ≤ 64) × (x .named + x .other ≡ x .all)
   unfolding told
   read {x} e = let (y, f, g) = taken (reading s given room) (sym e) in rw (← inner g) (few-shown f)
 

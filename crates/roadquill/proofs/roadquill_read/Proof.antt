@@ -9,58 +9,42 @@ use Rattle.operation.proofs.Counts as counts
 use Rattle.roadquill.specs.Packed.{packedReading}
 use Rattle.roadquill.proofs.roadquill_read.Statement.{statement}
 use Rattle.roadquill.proofs.roadquill_read.Tie as tie
-use Rattle.roadquill.proofs.roadquill_read.Reads as reads
-use Rattle.roadquill.proofs.roadquill_read.Lts as lts
-use Rattle.operation.proofs.read.Reads as read-reads
-use Rattle.roadquill.proofs.packed.Reads as packed-reads
-use Rattle.roadquill.proofs.shown.Reads as shown-reads
 
--- src/lib.rt:39:11
 read-requires : tie.Need-read-requires
 read-requires c κs = search needs
 
--- src/lib.rt:41:13
 enum-known-kind : tie.Need-enum-known-kind
 enum-known-kind c = search needs
 
--- src/lib.rt:51:52
 cast-shown : tie.Need-cast-shown
 cast-shown c =
     let a = c .before .before .before .before .before .before .before .before .before .args in
     omega (arith, counts.read (a .component .now) (a .specifier) (length (a .table .now)) (λ i. c .before .before .before .before .before .before .before .before .shared-slice-known .given i .fits) (sym (ap answerIn (c .before .kind .given .1)) ∙ c .before .before .before .before .before .read .ensures .0))
 
--- src/lib.rt:51:63
 cast-shown-2 : tie.Need-cast-shown-2
 cast-shown-2 c =
     let a = c .before .before .before .before .before .before .before .before .before .args in
     omega (arith, counts.read (a .component .now) (a .specifier) (length (a .table .now)) (λ i. c .before .before .before .before .before .before .before .before .shared-slice-known .given i .fits) (sym (ap answerIn (c .before .kind .given .1)) ∙ c .before .before .before .before .before .read .ensures .0))
 
--- src/lib.rt:51:13
 shown-requires : tie.Need-shown-requires
 shown-requires c κs = search needs
 
--- src/lib.rt:53:28
 enum-known-number : tie.Need-enum-known-number
 enum-known-number c = search needs
 
--- src/lib.rt:53:48
 packed-requires : tie.Need-packed-requires
 packed-requires c κs = search needs
 
--- src/lib.rt:34:1
 same-length : tie.Need-same-length
 same-length c = search needs
 
--- src/lib.rt:34:1
 returns : tie.Need-returns
 unfolding packedReading
 returns c = (c .shown .ensures ∙ ap packedReading (sym (ap answerIn (c .before .before .kind .given .1)) ∙ c .before .before .before .before .before .before .read .ensures .0), c .before .before .before .before .before .before .read .ensures .1)
 
--- src/lib.rt:34:1
 same-length-2 : tie.Need-same-length-2
 same-length-2 c = search needs
 
--- src/lib.rt:34:1
 returns-2 : tie.Need-returns-2
 unfolding packedReading
 returns-2 c = (c .packed .ensures ∙ ap packedReading (sym (ap answerIn (c .before .before .number .given .1)) ∙ c .before .before .before .before .before .before .read .ensures .0), c .before .before .before .before .before .before .read .ensures .1)

@@ -9,51 +9,37 @@ use Rattle.operation.proofs.Counts as counts
 use Rattle.roadquill.specs.Packed.{idFrom, packedWriting}
 use Rattle.roadquill.proofs.roadquill_write.Statement.{statement}
 use Rattle.roadquill.proofs.roadquill_write.Tie as tie
-use Rattle.roadquill.proofs.roadquill_write.Reads as reads
-use Rattle.roadquill.proofs.roadquill_write.Lts as lts
-use Rattle.operation.proofs.write.Reads as write-reads
-use Rattle.roadquill.proofs.packed.Reads as packed-reads
 
--- src/lib.rt:80:11
 write-requires : tie.Need-write-requires
 write-requires c κs = search needs
 
--- src/lib.rt:81:27
 enum-known-octets : tie.Need-enum-known-octets
 enum-known-octets c = search needs
 
--- src/lib.rt:81:48
 cast-packed : tie.Need-cast-packed
 cast-packed c =
     let a = c .before .before .before .before .before .before .before .before .before .before .args in
     omega (arith, counts.written-short (a .kind) (idFrom (a .count) (a .first) (a .second)) (a .specifier) (a .entries) (a .table .now) (a .source .now) (length (a .output .now)) (sym (ap writtenIn (c .before .octets .given .1)) ∙ c .before .before .before .before .before .write .ensures .0))
 
--- src/lib.rt:81:38
 packed-requires : tie.Need-packed-requires
 packed-requires c κs = search needs
 
--- src/lib.rt:82:28
 enum-known-number : tie.Need-enum-known-number
 enum-known-number c = search needs
 
--- src/lib.rt:82:48
 packed-requires-2 : tie.Need-packed-requires-2
 packed-requires-2 c κs = search needs
 
--- src/lib.rt:60:1
 same-length : tie.Need-same-length
 same-length c = search needs
 
--- src/lib.rt:60:1
 returns : tie.Need-returns
 unfolding packedWriting
 returns c = (c .packed .ensures ∙ ap packedWriting (sym (ap writtenIn (c .before .before .octets .given .1)) ∙ c .before .before .before .before .before .before .write .ensures .0), c .before .before .before .before .before .before .write .ensures .1)
 
--- src/lib.rt:60:1
 same-length-2 : tie.Need-same-length-2
 same-length-2 c = search needs
 
--- src/lib.rt:60:1
 returns-2 : tie.Need-returns-2
 unfolding packedWriting
 returns-2 c = (c .packed2 .ensures ∙ ap packedWriting (sym (ap writtenIn (c .before .before .number .given .1)) ∙ c .before .before .before .before .before .before .write .ensures .0), c .before .before .before .before .before .before .write .ensures .1)
