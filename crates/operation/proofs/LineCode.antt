@@ -21,7 +21,6 @@ module _ (n : ℕ) where
   pub allows : n < 4294967296 → lineIn n ≡ may (n % 65536)
   allows h = by-line (λ l. l ≡ may (n % 65536)) (λ _. refl) (λ a _. absurd (omega arith)) (λ a. absurd (omega arith))
 
-
   pub chooses : 8589934592 ≤ n → lineIn n ≡ oneOf (n % 65536) (n / 65536 % 65536)
   chooses h = by-line (λ l. l ≡ oneOf (n % 65536) (n / 65536 % 65536)) (λ a. absurd (omega arith)) (λ _ a. absurd (omega arith)) (λ _. refl)
 
