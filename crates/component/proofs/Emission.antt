@@ -7,7 +7,7 @@ use lib.ListN.{length, getD, take, drop, length-append}
 use native.Mathlib.Omega.{arith}
 use native.Mathlib.Nat.{add-zero, zero-add, sub-zero}
 use Rattle.element.specs.Octets.{Octets}
-use Rattle.element.specs.Answer.{Answer, accepted, _>>=_}
+use Rattle.element.specs.Answer.{accepted}
 use Rattle.element.specs.Identifier.{identifier}
 use Rattle.component.specs.Grammar.{Parameter}
 use Rattle.component.specs.Composed.{element, setOf}

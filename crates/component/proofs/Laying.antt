@@ -1,6 +1,6 @@
 -- The layout from its two parts: what the head answers, and what the walk over the parameters does.
 use Prim.Native.Nat.{ℕ, _+_, _*_, _-_, _≤_, _<_}
-use mathlib.Core.Path.{_≡_, refl, sym, ap, _∙_}
+use mathlib.Core.Path.{_≡_, refl, ap, _∙_}
 use mathlib.Core.List.{List, [], _∷_}
 use lib.ListN.{length, length-append, length-drop}
 use lib.Seq.{take-append-seam}

@@ -2,7 +2,6 @@
 -- `one-outcome` of element.)
 use Prim.Native.Nat.{ℕ}
 use mathlib.Core.Path.{_≡_, ap, ap₂}
-use lib.ListN.{length}
 use native.Mathlib.Omega.{arith}
 use Rattle.element.specs.Octets.{Octets}
 use Rattle.element.specs.Answer.{Answer, accepted, refused}

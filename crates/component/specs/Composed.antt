@@ -1,5 +1,4 @@
 -- The octets that a writer composes: the grammar with every length field at its shortest.
-use Prim.Native.Nat.{ℕ}
 use mathlib.Core.List.{List, [], _∷_, _++_}
 use lib.ListN.{length}
 use Rattle.element.specs.Octets.{Octets}

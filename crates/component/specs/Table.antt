@@ -1,6 +1,6 @@
 -- What a reading shows: the entries in the lent table, the outline as the answer, and a part handed back.
-use Prim.Native.Nat.{ℕ, zero, suc, _+_, _*_}
-use mathlib.Core.Bool.{Bool, true, false}
+use Prim.Native.Nat.{ℕ, zero, suc, _+_}
+use mathlib.Core.Bool.{Bool}
 use mathlib.Core.List.{List, [], _∷_, _++_}
 use lib.ListN.{length, getD, take, drop}
 use lib.Dec.{leb, eqb}
@@ -8,7 +8,7 @@ use Rattle.element.specs.Octets.{Octets, if, between}
 use Rattle.element.specs.Answer.{Answer, accepted, refused, _>>=_, _>>_, check}
 use Rattle.component.specs.declared.Id as D
 use Rattle.component.specs.declared.Heading as G
-use Rattle.component.specs.Layout.{Span, Entry, Head, Layout, next, parameterAt, headOf, layoutOf}
+use Rattle.component.specs.Layout.{Entry, Head, Layout, next, parameterAt, headOf, layoutOf}
 
 -- ---- the table: four numbers for each parameter, and what stands behind them stays
 unfoldable pub numbers : List Entry → List ℕ

@@ -5,12 +5,11 @@ use super::Measured;
 use super::part_fits;
 use element::Written;
 ghost use mathlib.Core.Path.{_≡_};
-ghost use mathlib.Core.List.{List, [], _∷_, _++_};
-ghost use Prim.Native.Nat.{ℕ, _+_, _*_, _≤_, _<_};
+ghost use mathlib.Core.List.{[], _∷_};
+ghost use Prim.Native.Nat.{_+_, _*_, _≤_, _<_};
 ghost use lib.ListN.{length, take, drop};
 ghost use Rattle.element.specs.Length.{shortest};
 ghost use Rattle.element.specs.Identifier.{identifier};
-ghost use Rattle.component.specs.Table.{fits};
 ghost use Rattle.component.specs.Composed.{element, setOf};
 ghost use Rattle.component.specs.Composing.{
   elementSize,

@@ -1,6 +1,5 @@
 -- A field written into a lent output: its octets at a position and nowhere else, or, where there is no room, nothing.
 use Prim.Native.Nat.{ℕ, _+_}
-use mathlib.Core.Bool.{Bool, true, false}
 use mathlib.Core.List.{_++_}
 use lib.ListN.{length, take, drop}
 use lib.Dec.{leb}

@@ -3,7 +3,7 @@
 ghost use mathlib.Core.Path.{_≡_};
 ghost use mathlib.Core.List.{[], _∷_};
 ghost use Prim.Native.Nat.{_<_, _≤_};
-ghost use lib.ListN.{length, take};
+ghost use lib.ListN.{take};
 ghost use Rattle.element.specs.Field.{written, outputAfter};
 ghost use Rattle.element.specs.Length.{shortest, fieldSize, lengthAt};
 ghost use Rattle.element.specs.Identifier.{

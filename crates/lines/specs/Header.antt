@@ -1,5 +1,5 @@
 -- The header of a tagged field: a tag, and the length of the contents in two octets, high first.
-use Prim.Native.Nat.{ℕ, _+_, _*_}
+use Prim.Native.Nat.{_+_, _*_}
 use lib.ListN.{length, getD}
 use lib.Dec.{ltb}
 use Rattle.element.specs.Octets.{Octets, if}

@@ -8,7 +8,7 @@ use lib.Dec.{leb, eqb}
 use borrow.Author.Tests.{leb-true, eqb-true}
 use native.Mathlib.Omega.{arith}
 use Rattle.element.specs.Octets.{Octets, AreOctets, if}
-use Rattle.element.specs.Answer.{Answer, accepted}
+use Rattle.element.specs.Answer.{accepted}
 use Rattle.component.specs.declared.Id as D
 use Rattle.component.specs.Layout.{Layout, layoutOf}
 use Rattle.component.specs.Grammar.{Parameter}

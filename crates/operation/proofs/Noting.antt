@@ -1,18 +1,18 @@
 -- The lines that a run meets, against what the row names, what occurred and what must.
 -- Assumes nothing.
-use Prim.Native.Nat.{ℕ, zero, suc, _+_, _-_, _<_, _≤_}
+use Prim.Native.Nat.{ℕ, zero, suc, _+_, _<_, _≤_}
 use mathlib.Core.Path.{_≡_, refl, sym, ap, subst, _∙_}
 use mathlib.Core.Bool.{Bool, true, false, _&&_, _||_, not, true≢false, and-false, or-false as or-none}
 use mathlib.Core.List.{List, [], _∷_}
 use lib.ListN.{length, length-map, getD, set, replicate, getD-replicate}
 use lib.Seq.{getD-set-same, getD-set-other}
 use lib.Dec.{eqb}
-use borrow.Author.Tests.{eq-eqb, ne-eqb, eqb-true, eqb-false, not-true}
+use borrow.Author.Tests.{ne-eqb, eqb-true, eqb-false, not-true}
 use native.Mathlib.Omega.{arith}
 use native.Mathlib.Nat.{zero-add}
 use native.Mathlib.Numerals.{add-one}
 use Rattle.element.specs.Octets.{if}
-use Rattle.element.specs.Answer.{Answer, accepted, refused, _>>_, check}
+use Rattle.element.specs.Answer.{accepted}
 use Rattle.operation.specs.Row.{Row, Line, must, oneOf, may, Item, onLine, named, repeats, occurs, present, single}
 use Rattle.operation.specs.Coded.{lineIn, rowIn, itemAt, itemsFrom}
 use Rattle.operation.specs.Noting.{lineOf, metBy, first, firstFrom, distinct, asked, Notes, Alone, Noted}

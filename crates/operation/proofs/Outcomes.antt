@@ -2,7 +2,7 @@
 use Prim.Native.Nat.{ℕ}
 use mathlib.Core.Path.{_≡_, ap, ap₂}
 use native.Mathlib.Omega.{arith}
-use Rattle.element.specs.Answer.{Answer, accepted, refused}
+use Rattle.element.specs.Answer.{Answer, accepted}
 use Rattle.element.proofs.Outcomes.{one-told}
 use Rattle.operation.specs.declared.Reading as R
 use Rattle.operation.specs.declared.Reading.the-variants as RV

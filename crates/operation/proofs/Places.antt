@@ -1,14 +1,13 @@
 -- The items of a reading by their entries and by their places: a row judges both alike, and what it points to moves along.
-use Prim.Native.Nat.{ℕ, zero, suc, _+_, _*_, _-_, _<_, _≤_}
-use mathlib.Core.Path.{_≡_, refl, sym, ap, ap₂, _∙_}
+use Prim.Native.Nat.{ℕ, zero, suc, _+_, _*_, _<_}
+use mathlib.Core.Path.{_≡_, refl, ap, ap₂}
 use mathlib.Core.List.{List, [], _∷_, _++_, map, append-assoc}
 use lib.ListN.{length, getD, drop, length-append}
 use lib.Seq.{getD-append-add}
 use native.Mathlib.Nat.{add-zero, zero-add}
-use native.Mathlib.Numerals.{add-one}
 use native.Mathlib.Omega.{arith}
 use Rattle.component.specs.Layout.{Entry, next}
-use Rattle.component.specs.Shown.{Contiguous, none, more}
+use Rattle.component.specs.Shown.{Contiguous, more}
 use Rattle.component.specs.Table.{numbers, tableWith}
 use Rattle.operation.specs.Row.{Item, key, remark}
 use Rattle.operation.specs.Coded.{itemAt, itemsFrom}

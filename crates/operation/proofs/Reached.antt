@@ -1,30 +1,28 @@
 -- From the engine's answer over the sheet to the reading: the row, the counts, and each place that a refusal points to.
-use Prim.Native.Nat.{ℕ, _+_, _*_, _-_, _<_, _≤_}
-use mathlib.Core.Path.{_≡_, refl, sym, ap, _∙_}
+use Prim.Native.Nat.{ℕ, _+_, _-_, _<_, _≤_}
+use mathlib.Core.Path.{_≡_, refl, ap, _∙_}
 use mathlib.Core.Bool.{Bool, true, false}
 use mathlib.Core.List.{List, [], _∷_, map, List·Memᴰ, List·Memᴰ·cases-cons, List·Memᴰ·not-nil}
 use mathlib.Core.Logic.{⊎-elim}
 use lib.ListN.{length}
 use lib.Dec.{eqb}
-use borrow.Author.Tests.{le-leb}
 use native.Mathlib.Nat.{zero-add}
 use native.Mathlib.Omega.{arith}
 use Rattle.element.specs.Octets.{Octets, AreOctets, if}
 use Rattle.element.specs.Answer.{Answer, accepted, refused, _>>=_, _>>_}
 use Rattle.component.specs.Layout.{Entry, Layout, layoutOf}
 use Rattle.component.specs.Shown.{specifierIn}
-use Rattle.component.specs.Table.{headingOf, specifierAt, tableWith, copied}
+use Rattle.component.specs.Table.{headingOf, specifierAt, tableWith}
 use Rattle.component.proofs.Laying.{few, copies}
 use Rattle.component.proofs.Sound.{in-order}
 use Rattle.operation.specs.declared.Judged as J
 use Rattle.operation.specs.declared.Judged.the-variants as JV
-use Rattle.operation.specs.Row.{Row, Item, named, judge, countNamed, pointed, remark}
-use Rattle.operation.specs.Rows.{rowOf}
+use Rattle.operation.specs.Row.{Row, Item, named, judge, countNamed, pointed}
 use Rattle.operation.specs.Points.{Points, repeated, missing, neither, both}
 use Rattle.operation.specs.Coded.{itemsFrom, judgement, verdict, judgedIn}
-use Rattle.operation.specs.Reading.{Shown, itemOf, countOther, reading, tableAfter}
-use Rattle.operation.specs.Told.{Told, told}
-use Rattle.operation.specs.Finishing.{specifierFor, placeFrom, Pointing, detailOf, finished, tableFinished}
+use Rattle.operation.specs.Reading.{itemOf, countOther, reading, tableAfter}
+use Rattle.operation.specs.Told.{told}
+use Rattle.operation.specs.Finishing.{specifierFor, Pointing, detailOf, finished, tableFinished}
 use Rattle.operation.proofs.Marks.{marked, count-marked, points}
 use Rattle.operation.proofs.Readings.{either-row, shownBy, reads, no-row}
 use Rattle.operation.proofs.Places.{indexed, placeAt, sheet-items, placed-items, sheet-place}

@@ -1,12 +1,12 @@
 -- What `read` cites: the engine's answer over a sheet that `fill_layout` filled, as the reading that it comes to.
-use Prim.Native.Nat.{ℕ, _*_, _≤_, _<_}
-use mathlib.Core.Path.{_≡_, refl, sym, ap, _∙_}
+use Prim.Native.Nat.{ℕ, _≤_, _<_}
+use mathlib.Core.Path.{_≡_, refl, ap, _∙_}
 use mathlib.Core.List.{List}
 use lib.ListN.{length}
 use borrow.Author.Tests.{le-leb, lt-leb}
 use native.Mathlib.Omega.{arith}
 use Rattle.element.specs.Octets.{Octets, AreOctets}
-use Rattle.element.specs.Answer.{Answer, accepted, refused}
+use Rattle.element.specs.Answer.{accepted, refused}
 use Rattle.component.specs.declared.Heading as G
 use Rattle.component.specs.Layout.{Layout, layoutOf}
 use Rattle.component.specs.Shown.{specifierIn}

@@ -1,7 +1,7 @@
 -- The parameter table of an operation as the book words it: how often each identifier occurs, with no order of checks.
 use Prim.Native.Nat.{ℕ, _+_, _≤_}
 use mathlib.Core.Path.{_≡_}
-use mathlib.Core.Bool.{Bool, true, false}
+use mathlib.Core.Bool.{true, false}
 use mathlib.Core.List.{List, [], _∷_}
 use lib.Dec.{eqb}
 use Rattle.element.specs.Octets.{if}

@@ -1,6 +1,5 @@
 -- How the code holds a row and a run of parameters: a line of a row as one number, the parameters as a table of four numbers each.
 use Prim.Native.Nat.{ℕ, zero, suc, _+_, _*_, _/_, _%_}
-use mathlib.Core.Bool.{Bool, true, false}
 use mathlib.Core.List.{List, [], _∷_, map}
 use lib.ListN.{getD}
 use lib.Dec.{eqb}

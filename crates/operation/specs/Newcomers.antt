@@ -1,5 +1,4 @@
 -- A run of items, and the same run with newcomers anywhere among it that the row does not name.
-use Prim.Native.Nat.{ℕ}
 use mathlib.Core.Path.{_≡_}
 use mathlib.Core.Bool.{false}
 use mathlib.Core.List.{List, [], _∷_}

@@ -6,7 +6,7 @@ use mathlib.Core.List.{List, [], _∷_}
 use lib.ListN.{length, getD}
 use lib.Dec.{eqb}
 use Rattle.element.specs.Octets.{if}
-use Rattle.element.specs.Answer.{Answer, accepted, refused, _>>=_, _>>_, check}
+use Rattle.element.specs.Answer.{Answer, accepted, _>>_, check}
 use Rattle.operation.specs.Row.{Row, Line, must, oneOf, may, Item, onLine, occurs, numberOf}
 use Rattle.operation.specs.Coded.{rowIn}
 use Rattle.operation.specs.declared.Repeat as R

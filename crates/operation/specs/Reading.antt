@@ -1,12 +1,10 @@
 -- What the reader answers, and what it leaves in the lent table.
 use Prim.Native.Nat.{ℕ, _+_}
-use mathlib.Core.Bool.{Bool, true, false}
 use mathlib.Core.List.{List, [], _∷_, map}
-use lib.ListN.{length}
 use lib.Dec.{leb}
 use Rattle.element.specs.Octets.{Octets, if, between}
 use Rattle.element.specs.Answer.{Answer, accepted, refused, _>>=_, _>>_, check}
-use Rattle.component.specs.Layout.{Entry, Layout, layoutOf}
+use Rattle.component.specs.Layout.{Entry, layoutOf}
 use Rattle.component.specs.Shown.{specifierIn}
 use Rattle.component.specs.Table.{tableWith}
 use Rattle.operation.specs.Row.{Row, Item, key, named, judge, countNamed}

@@ -1,6 +1,6 @@
 -- A row of the paper, and how it judges a run of parameters. Nothing here knows which rows there are.
 use Prim.Native.Nat.{ℕ, _+_, _*_, _/_}
-use mathlib.Core.Bool.{Bool, true, false, _&&_, _||_, not}
+use mathlib.Core.Bool.{Bool, false, _&&_, _||_, not}
 use mathlib.Core.List.{List, [], _∷_}
 use lib.Dec.{eqb}
 use Rattle.element.specs.Octets.{if}

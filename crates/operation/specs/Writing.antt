@@ -2,7 +2,7 @@
 use Prim.Native.Nat.{ℕ, _+_}
 use mathlib.Core.List.{List, [], _∷_}
 use Rattle.element.specs.Octets.{Octets}
-use Rattle.element.specs.Answer.{Answer, accepted, refused, _>>=_, _>>_}
+use Rattle.element.specs.Answer.{Answer, _>>=_, _>>_}
 use Rattle.component.specs.declared.Id as D
 use Rattle.component.specs.Grammar.{Parameter}
 use Rattle.component.specs.Composing.{entriesOf, octetsOf}

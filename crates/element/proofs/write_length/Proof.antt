@@ -1,7 +1,6 @@
 -- `element::write_length` meets its contract: the field by its size, and what `put` ensures of it.
 -- Assumes nothing.
 use borrow.Author.Needs.{needs}
-use native.Mathlib.Omega.{arith}
 use Rattle.element.proofs.Ways.{says-1, says-2, says-3}
 use Rattle.element.proofs.write_length.Statement.{statement}
 use Rattle.element.proofs.write_length.Tie as tie

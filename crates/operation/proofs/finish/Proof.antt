@@ -1,10 +1,9 @@
 -- `operation::finish` meets its contract: each case of the engine's answer says its own number.
 -- Assumes nothing.
 use borrow.Author.Needs.{needs}
-use mathlib.Core.Path.{_≡_, refl, sym, ap, _∙_}
+use mathlib.Core.Path.{refl}
 use native.Mathlib.Omega.{arith}
-use Rattle.operation.specs.Coded.{judgedIn}
-use Rattle.operation.specs.Finishing.{Pointing, detailOf, finished, tableFinished}
+use Rattle.operation.specs.Finishing.{detailOf, finished, tableFinished}
 use Rattle.operation.proofs.finish.Statement.{statement}
 use Rattle.operation.proofs.finish.Tie as tie
 

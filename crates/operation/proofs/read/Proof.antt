@@ -3,7 +3,6 @@
 use borrow.Author.Needs.{needs}
 use mathlib.Core.Path.{sym, ap, _∙_}
 use lib.ListN.{replicate}
-use native.Mathlib.Omega.{arith}
 use Rattle.component.specs.Told.{outlineIn}
 use Rattle.operation.proofs.Reader.{too-short, not-laid-out, bounds, reached}
 use Rattle.operation.proofs.read.Statement.{statement}

@@ -1,7 +1,7 @@
 -- `operation::write` meets its contract: what `measure` refuses, then what the row says, then what `compose` makes.
 -- Assumes nothing.
 use borrow.Author.Needs.{needs}
-use mathlib.Core.Path.{refl, sym, ap, _∙_}
+use mathlib.Core.Path.{sym, ap, _∙_}
 use lib.ListN.{length}
 use native.Mathlib.Omega.{arith}
 use Rattle.component.specs.Composing.{written, outputAfter}

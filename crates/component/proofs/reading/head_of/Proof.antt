@@ -1,7 +1,7 @@
 -- `component::head_of` meets its contract.
 -- Assumes nothing.
 use borrow.Author.Needs.{needs}
-use mathlib.Core.Path.{_≡_, refl, sym, ap, _∙_}
+use mathlib.Core.Path.{_≡_, sym, ap, _∙_}
 use mathlib.Core.Bool.{true, _||_}
 use mathlib.Core.Logic.{⊎-elim}
 use lib.Dec.{eqb}

@@ -7,7 +7,7 @@ use borrow.Author.Tests.{eq-eqb, ne-eqb}
 use Rattle.component.specs.Layout.{operation}
 use Rattle.component.specs.Table.{headed, headingOf, specifierAt}
 use Rattle.component.specs.Told.{spanIn}
-use Rattle.component.proofs.Inside.{wanted-inside, set-inside}
+use Rattle.component.proofs.Inside.{wanted-inside}
 use Rattle.component.proofs.reading.operation_at.Statement.{statement}
 use Rattle.component.proofs.reading.operation_at.Tie as tie
 

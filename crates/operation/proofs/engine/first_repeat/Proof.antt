@@ -2,7 +2,7 @@
 -- that the entries so far met are noted. Where an entry's line was met the search for an earlier entry goes back from the entry: the key occurred
 -- where it did among those that are left.
 -- Assumes nothing.
-use Prim.Native.Nat.{_+_, _-_, _≤_}
+use Prim.Native.Nat.{_-_, _≤_}
 use mathlib.Core.Path.{_≡_, refl, sym, subst, _∙_}
 use mathlib.Core.Bool.{true, false, true≢false}
 use mathlib.Core.Logic.{⊎-elim}
