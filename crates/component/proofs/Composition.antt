@@ -4,33 +4,36 @@ use mathlib.Core.Path.{_≡_, refl, ap, _∙_}
 use mathlib.Core.Bool.{Bool, true, false, _||_}
 use mathlib.Core.Logic.{_⊎_, inl, inr, ⊎-elim}
 use mathlib.Core.List.{List, [], _∷_, _++_, append-assoc, append-nil}
-use lib.Dec.{eqb}
+use lib.Dec.{leb, eqb}
 use lib.ListN.{length, take, drop, length-append}
 use lib.Seq.{length-take-le}
-use borrow.Author.Tests.{lt-ltb, eq-eqb, ne-eqb, eqb-true}
+use borrow.Author.Tests.{lt-ltb, leb-true, eq-eqb, ne-eqb, eqb-true}
 use native.Mathlib.Omega.{arith}
 use Rattle.element.specs.Octets.{Octets, if}
 use Rattle.element.specs.Length.{shortest, fieldSize}
-use Rattle.element.specs.Identifier.{identifier}
-use Rattle.element.proofs.LengthLaws as length-laws
-use Rattle.element.proofs.IdentifierLaws as identifier-laws
 use Rattle.component.specs.declared.Id as D
 use Rattle.component.specs.Grammar.{Parameter}
 use Rattle.component.specs.Composed.{element, setOf, composed}
-use Rattle.component.specs.Composing.{elementSize, setSize, bodySize, octetsNeeded, idOctets, componentOf}
+use Rattle.component.specs.Composing.{elementSize, setSize, bodySize, octetsNeeded, idFits, idOctets, componentOf}
 use Rattle.component.specs.Emitting.{operationOctets, headOctets}
 use Rattle.component.proofs.Putting.{part-length}
+use Rattle.component.proofs.Sizes.{element-length, same-set}
 
-pub element-length : (head body : Octets) → length body < 65536 → length (element head body) ≡ elementSize (length head) (length body)
-unfolding element elementSize
-element-length head body h = simp (length-append, length-laws.size (length body) h)
+-- a component type, and how many ID octets it allows
+abbrev pub Kinds : (kind count : ℕ) → Type 0
+Kinds kind count = ((kind ≡ 0xE9) × (count ≤ 2)) ⊎ ((kind ≡ 0xEA) × (count ≡ 1))
 
-pub set-length : (ps : List Parameter) → setSize ps < 65536 → length (setOf ps) ≡ setSize ps
-unfolding setOf setSize elementSize
-set-length [] h = refl
-set-length (p ∷ ps) h =
-    let e = element-length (identifier (p .number) (p .form)) (p .content) (omega arith) in
-    rw (length-append, e, identifier-laws.size, set-length ps (omega arith)) refl
+pub kinds : (kind count : ℕ) → eqb kind 0xE9 || eqb kind 0xEA ≡ true → idFits kind count ≡ true → Kinds kind count
+unfolding idFits
+kinds kind count = go (eqb kind 0xE9) refl
+  where
+    go : (t : Bool) → eqb kind 0xE9 ≡ t → (t || eqb kind 0xEA) ≡ true → if t (leb count 2) (eqb count 1) ≡ true → Kinds kind count
+    go true e _ f = inl (eqb-true _ _ e, leb-true _ _ f)
+    go false e o f = inr (eqb-true _ _ o, eqb-true _ _ f)
+
+pub two-at-most : {kind count : ℕ} → Kinds kind count → count ≤ 2
+two-at-most (inl (_, h)) = h
+two-at-most (inr (_, e)) = omega arith
 
 pub id-length : (id : D.Id) → id .count ≤ 2 → length (idOctets id) ≡ id .count
 unfolding idOctets
@@ -84,11 +87,6 @@ module _ (head s : Octets) (start size : ℕ) (h : start + size ≤ length s) wh
 bodyOf : (kind : ℕ) (id : D.Id) (specifier : ℕ) → List Parameter → Octets
 bodyOf kind id specifier ps = element (0xCF ∷ []) (idOctets id) ++ operationOctets kind specifier ++ element (0xF2 ∷ []) (setOf ps)
 
-by-kind : (kind : ℕ) (a b : Bool) → eqb kind 0xE9 ≡ a → eqb kind 0xEA ≡ b → (a || b) ≡ true → (kind ≡ 0xE9) ⊎ (kind ≡ 0xEA)
-by-kind kind true b e f h = inl (eqb-true kind 0xE9 e)
-by-kind kind false true e f h = inr (eqb-true kind 0xEA f)
-by-kind kind false false e f h = let z : _≡_ {A = ℕ} 0 1 = cc in absurd (omega arith)
-
 code-length : (t : Bool) (specifier : ℕ) → length (if t (0xD1 ∷ 2 ∷ 9 ∷ specifier ∷ []) []) ≡ if t 4 0
 code-length true specifier = refl
 code-length false specifier = refl
@@ -114,18 +112,20 @@ module _ (kind : ℕ) (id : D.Id) (specifier : ℕ) (ps : List Parameter) where
   unfolding componentOf composed bodyOf operationOctets
   as-result e = rw (e, append-nil) refl
 
-  module _ (known : (eqb kind 0xE9 || eqb kind 0xEA) ≡ true) (few : id .count ≤ 2) (short : octetsNeeded kind (id .count) ps ≤ 4096) where
+  module _ (allowed : Kinds kind (id .count)) (short : octetsNeeded kind (id .count) ps ≤ 4096) where
     as-element : composed (componentOf kind id specifier ps) ≡ element (kind ∷ []) (bodyOf kind id specifier ps)
-    as-element = ⊎-elim as-invoke as-result (by-kind kind (eqb kind 0xE9) (eqb kind 0xEA) refl refl known)
+    as-element = ⊎-elim (λ k. as-invoke (k .0)) (λ k. as-result (k .0)) allowed
+
+    set-length : length (setOf ps) ≡ setSize ps
+    set-length = same-set ps (omega (arith, short-set kind (id .count) ps short))
 
     body-length : length (bodyOf kind id specifier ps) ≡ bodySize kind (id .count) (setSize ps)
     unfolding bodyOf bodySize operationOctets
     body-length =
-        let i = id-length id few in
-        let s = set-length ps (omega (arith, short-set kind (id .count) ps short)) in
-        let e = element-length (0xCF ∷ []) (idOctets id) (rw i (omega arith)) in
-        let f = element-length (0xF2 ∷ []) (setOf ps) (rw s (omega (arith, short-set kind (id .count) ps short))) in
-        simp (length-append, e, f, i, s, code-length)
+        let i = id-length id (two-at-most allowed) in
+        let e = element-length (0xCF ∷ []) (idOctets id) (rw i (omega (arith, two-at-most allowed))) in
+        let f = element-length (0xF2 ∷ []) (setOf ps) (rw set-length (omega (arith, short-set kind (id .count) ps short))) in
+        simp (length-append, e, f, i, set-length, code-length)
 
     pub whole : length (composed (componentOf kind id specifier ps)) ≡ octetsNeeded kind (id .count) ps
     unfolding octetsNeeded
@@ -136,6 +136,6 @@ module _ (kind : ℕ) (id : D.Id) (specifier : ℕ) (ps : List Parameter) where
     pub parts : composed (componentOf kind id specifier ps) ≡ headOctets kind id specifier (bodySize kind (id .count) (setSize ps)) (setSize ps) ++ setOf ps
     unfolding headOctets element bodyOf
     parts =
-        as-element ∙ rw (body-length, set-length ps (omega (arith, short-set kind (id .count) ps short)))
+        as-element ∙ rw (body-length, set-length)
         (regroup (kind ∷ []) (shortest (bodySize kind (id .count) (setSize ps))) (element (0xCF ∷ []) (idOctets id)) (operationOctets kind specifier)
         (0xF2 ∷ []) (shortest (setSize ps)) (setOf ps))

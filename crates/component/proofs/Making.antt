@@ -18,7 +18,9 @@ use Rattle.component.specs.Composed.{composed}
 use Rattle.component.specs.Composable.{Composable, Typed, Identified}
 use Rattle.component.specs.Table.{idOf, tableWith}
 use Rattle.component.specs.Composing.{entriesFrom, octetsNeeded, idFits, idOctets, componentOf, entriesOf, octetsOf}
-use Rattle.component.proofs.Taken.{taken, passed}
+use Rattle.component.proofs.Taken.{passed}
+use Rattle.component.proofs.Composition.{Kinds, id-length}
+use Rattle.component.proofs.Measuring.{ready}
 use Rattle.component.proofs.Sizes.{sized}
 use Rattle.component.proofs.Entries.{entries-stand, as-many, table-shown}
 
@@ -73,49 +75,26 @@ pub record Makes (kind : ℕ) (id : D.Id) (specifier : ℕ) (ps : List Parameter
   pub parameters-are : parametersOf c ≡ ps
   pub composable : Composable c
 
-abbrev Kinds : (kind count : ℕ) → Type 0
-Kinds kind count = ((kind ≡ 0xE9) × (count ≤ 2)) ⊎ ((kind ≡ 0xEA) × (count ≡ 1))
-
-kinds : (kind count : ℕ) → eqb kind 0xE9 || eqb kind 0xEA ≡ true → idFits kind count ≡ true → Kinds kind count
-unfolding idFits
-kinds kind count = go (eqb kind 0xE9) refl
-  where
-    go : (t : Bool) → eqb kind 0xE9 ≡ t → (t || eqb kind 0xEA) ≡ true → if t (leb count 2) (eqb count 1) ≡ true → Kinds kind count
-    go true e _ f = inl (eqb-true _ _ e, leb-true _ _ f)
-    go false e o f = inr (eqb-true _ _ o, eqb-true _ _ f)
-
 composable : (c : Component) → Typed c → Identified (parametersOf c) → {n : ℕ} → length (identifierOf c) ≡ n → octetsNeeded (kindOf c) n (parametersOf c) ≤ 4096 → Composable c
 composable c t i e h = let k = rw (← e) at h in record { typed = t; identified = i; size = omega (arith, sized c (omega arith)) }
 
 module _ (kind : ℕ) (id : D.Id) (specifier : ℕ) (ps : List Parameter) where
-  counted : id .count ≤ 2 → length (idOctets id) ≡ id .count
-  unfolding idOctets
-  counted h = simp length-take (omega arith)
-
   made : Kinds kind (id .count) → specifier < 256 → Identified ps → octetsNeeded kind (id .count) ps ≤ 4096 → Makes kind id specifier ps (componentOf kind id specifier ps)
   unfolding componentOf
   made (inl k) h i z =
-      let c = composable (Invoke (idOctets id) specifier ps) (rw (counted (k .1)) (k .1, h)) i (counted (k .1)) (rw (k .0) at z) in
+      let c = composable (Invoke (idOctets id) specifier ps) (rw (id-length id (k .1)) (k .1, h)) i (id-length id (k .1)) (rw (k .0) at z) in
       rw (k .0) (record { kind-is = refl; id-is = refl; specifier-is = refl; parameters-are = refl; composable = c })
   made (inr k) h i z =
-      let l = counted (omega arith) in
+      let l = id-length id (omega arith) in
       let c = composable (Result (idOctets id) ps) (l ∙ k .1) i l (rw (k .0) at z) in
       rw (k .0) (record { kind-is = refl; id-is = refl; specifier-is = refl; parameters-are = refl; composable = c })
 
   pub makes : (count : ℕ) (t : List ℕ) (source : Octets) → specifier < 256 → entriesOf kind id count t source ≡ accepted ps →
       Makes kind id specifier ps (componentOf kind id specifier ps) × (entriesFrom 0 count t source ≡ accepted ps) × (length ps ≤ 64)
-  unfolding entriesOf
   makes count t source h e =
-      let (a, f) = passed (eqb kind 0xE9 || eqb kind 0xEA) 3 0 e in
-      let (b, g) = passed (idFits kind (id .count)) 6 0 f in
-      let (c, k) = passed (leb count 64) 10 0 g in
-      let (_, l) = passed (leb (4 * count) (length t)) 1 0 k in
-      let (qs, m, n) = taken (entriesFrom 0 count t source) l in
-      let (s, p) = passed (leb (octetsNeeded kind (id .count) qs) 4096) 15 (octetsNeeded kind (id .count) qs) n in
-      let q : qs ≡ ps = cc in
-      let d : entriesFrom 0 count t source ≡ accepted ps = cc in
-      let (i, v) = entries-stand t source 0 count d in
-      (made (kinds kind (id .count) a b) h i (leb-true _ _ (rw q at s)), d, omega (arith, leb-true count 64 c))
+      let r = ready kind id count t source e in
+      let (i, v) = entries-stand t source 0 count (r .entries) in
+      (made (r .allowed) h i (r .short), r .entries, omega (arith, r .few))
 
   pub octets-are : (room : ℕ) {s : Octets} → octetsOf kind id specifier ps room ≡ accepted s → s ≡ composed (componentOf kind id specifier ps)
   unfolding octetsOf

@@ -13,6 +13,7 @@ use Rattle.component.specs.Grammar.{Parameter}
 use Rattle.component.specs.Composing.{elementSize, setSize, bodySize, octetsNeeded, idFits, entriesFrom, entriesOf, Sizes, measured}
 use Rattle.component.specs.Emitting.{sized, measuredOf}
 use Rattle.component.proofs.Taken.{taken, passed}
+use Rattle.component.proofs.Composition.{Kinds, kinds}
 
 -- the kinds that there are
 pub invoke-known : (kind : ℕ) → kind ≡ 0xE9 → (eqb kind 0xE9 || eqb kind 0xEA) ≡ true
@@ -80,8 +81,7 @@ module _ (kind id set : ℕ) {whole : ℕ} (e : whole ≡ elementSize 1 (bodySiz
 -- back from what is accepted
 module _ (kind : ℕ) (id : D.Id) (count : ℕ) (t : List ℕ) (source : Octets) where
   pub record Ready (ps : List Parameter) : Type 0 where
-    pub known : (eqb kind 0xE9 || eqb kind 0xEA) ≡ true
-    pub fit : idFits kind (id .count) ≡ true
+    pub allowed : Kinds kind (id .count)
     pub few : count ≤ 64
     pub room : 4 * count ≤ length t
     pub entries : entriesFrom 0 count t source ≡ accepted ps
@@ -97,4 +97,4 @@ module _ (kind : ℕ) (id : D.Id) (count : ℕ) (t : List ℕ) (source : Octets)
       let (qs, x, y) = taken (entriesFrom 0 count t source) d in
       let (l, z) = passed (leb (octetsNeeded kind (id .count) qs) 4096) 15 (octetsNeeded kind (id .count) qs) y in
       let same : qs ≡ ps = cc in
-      rw (← same) (record { known = k; fit = f; few = leb-true _ _ m; room = leb-true _ _ r; entries = x; short = leb-true _ _ l })
+      rw (← same) (record { allowed = kinds kind (id .count) k f; few = leb-true _ _ m; room = leb-true _ _ r; entries = x; short = leb-true _ _ l })

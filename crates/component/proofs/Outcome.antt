@@ -34,10 +34,6 @@ use Rattle.component.proofs.Taken.{taken}
 use Rattle.component.proofs.Measuring.{sizesOf, Ready, ready}
 use Rattle.component.proofs.Emission.{listed, stand}
 
-small : (t : Bool) (count : ℕ) → if t (leb count 2) (eqb count 1) ≡ true → count ≤ 2
-small true count e = leb-true count 2 e
-small false count e = omega (arith, eqb-true count 1 e)
-
 stopped : {A B C : Type 0} (a : Answer A) (f : A → B) (g : A → Answer C) {n d : ℕ} → (a >>= λ x. accepted (f x)) ≡ refused n d → (a >>= g) ≡ refused n d
 stopped (accepted x) f g e = let z : _≡_ {A = ℕ} 0 1 = cc in absurd (omega arith)
 stopped (refused n d) f g e = cc
@@ -83,10 +79,6 @@ module _ (kind : ℕ) (id : D.Id) (count : ℕ) (t : List ℕ) (source : Octets)
       unchanged out (stopped (entriesOf kind id count t source) (sizesOf kind (id .count)) (λ ps. octetsOf kind id specifier ps (length out)) (sym e))
 
   module _ {whole set : ℕ} (f : Found whole set) where
-    few : id .count ≤ 2
-    unfolding idFits
-    few = small (eqb kind 0xE9) (id .count) (f .ready .fit)
-
     pub short : whole ≤ 4096
     short = rw (f .whole-is) (f .ready .short)
 
@@ -101,18 +93,18 @@ module _ (kind : ℕ) (id : D.Id) (count : ℕ) (t : List ℕ) (source : Octets)
       module _ {body : ℕ} (b : body ≡ bodySize kind (id .count) set) where
         octets : composed (componentOf kind id specifier (entries 0 count t source))
             ≡ headOctets kind id specifier body set ++ setOf (entries 0 count t source)
-        octets = rw (b, f .set-is) (composition.parts kind id specifier (entries 0 count t source) (f .ready .known) few (f .ready .short))
+        octets = rw (b, f .set-is) (composition.parts kind id specifier (entries 0 count t source) (f .ready .allowed) (f .ready .short))
 
         lengths : length (headOctets kind id specifier body set) + length (setOf (entries 0 count t source)) ≡ whole
         lengths =
             sym (length-append (headOctets kind id specifier body set) (setOf (entries 0 count t source))) ∙ ap length (sym octets)
-            ∙ composition.whole kind id specifier (entries 0 count t source) (f .ready .known) few (f .ready .short) ∙ sym (f .whole-is)
+            ∙ composition.whole kind id specifier (entries 0 count t source) (f .ready .allowed) (f .ready .short) ∙ sym (f .whole-is)
 
         module _ (h : whole ≤ length out) where
           pub head-ready : (id .count ≤ 2) × (body < 65536) × (set < 65536) × (length (headOctets kind id specifier body set) ≤ length out)
           head-ready =
               let s : bodySize kind (id .count) set ≤ 4096 = rw (f .set-is) (composition.short-body kind (id .count) (entries 0 count t source) (f .ready .short)) in
-              (few, omega arith, omega (arith, short-set), omega (arith, lengths))
+              (composition.two-at-most (f .ready .allowed), omega arith, omega (arith, short-set), omega (arith, lengths))
 
           module _ {next : ℕ} {mid : Octets} (p : Put (headOctets kind id specifier body set) 0 out next mid) where
             pub set-ready : length mid ≡ length out → (count ≤ 64) × (4 * count ≤ length t) × AllStand count t source

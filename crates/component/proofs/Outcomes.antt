@@ -1,9 +1,7 @@
--- No second outcome fits a promise: two answers that tell the same are the same. (Promises that equate the outcome itself need only
+-- No second outcome fits a promise: what an answer tells leads back to it. (Promises that equate the outcome itself need only
 -- `one-outcome` of element.)
 use Prim.Native.Nat.{ℕ}
-use mathlib.Core.Path.{_≡_, ap, ap₂}
-use native.Mathlib.Omega.{arith}
-use Rattle.element.specs.Octets.{Octets}
+use mathlib.Core.Path.{_≡_, refl}
 use Rattle.element.specs.Answer.{Answer, accepted, refused}
 use Rattle.element.proofs.Outcomes.{one-told}
 use Rattle.component.specs.declared.Count as C
@@ -16,46 +14,38 @@ use Rattle.component.specs.Table.{Outline}
 use Rattle.component.specs.Composing.{Sizes}
 use Rattle.component.specs.Told.{countIn, outlineIn, measureIn}
 
-never : {A P : Type 0} {n d : ℕ} {x : A} → _≡_ {A = Answer A} (accepted x) (refused n d) → P
-never e = let z : _≡_ {A = ℕ} 0 1 = cc in absurd (omega arith)
+-- `fill_layout` and `read_layout`
+abbrev layoutFor : Answer Outline → Y.Layout
+layoutFor (accepted o) = YV.Accepted (o .heading) (o .count)
+layoutFor (refused n d) = YV.Refused n d
 
-never-either : {A P : Type 0} {n d : ℕ} {x : A} → _≡_ {A = Answer A} (refused n d) (accepted x) → P
-never-either e = let z : _≡_ {A = ℕ} 0 1 = cc in absurd (omega arith)
+same-layout : (x : Y.Layout) → layoutFor (outlineIn x) ≡ x
+same-layout (YV.Accepted h n) = refl
+same-layout (YV.Refused n d) = refl
 
-value : {A : Type 0} {x y : A} → _≡_ {A = Answer A} (accepted x) (accepted y) → x ≡ y
-value e = cc
-
-refusal : {A : Type 0} {n m d c : ℕ} → _≡_ {A = Answer A} (refused n d) (refused m c) → (n ≡ m) × (d ≡ c)
-refusal e = (cc, cc)
-
-pub layouts-differ : (x y : Y.Layout) → outlineIn x ≡ outlineIn y → x ≡ y
-layouts-differ (YV.Accepted h n) (YV.Accepted g m) e =
-    let f = value e in
-    ap₂ YV.Accepted (ap (λ (o : Outline). o .heading) f) (ap (λ (o : Outline). o .count) f)
-layouts-differ (YV.Accepted h n) (YV.Refused m d) e = never e
-layouts-differ (YV.Refused n d) (YV.Accepted g m) e = never-either e
-layouts-differ (YV.Refused n d) (YV.Refused m c) e = let (f, g) = refusal e in ap₂ YV.Refused f g
-
-pub counts-differ : (x y : C.Count) → countIn x ≡ countIn y → x ≡ y
-counts-differ (CV.Of n) (CV.Of m) e = ap CV.Of (value e)
-counts-differ (CV.Of n) (CV.Refused m d) e = never e
-counts-differ (CV.Refused n d) (CV.Of m) e = never-either e
-counts-differ (CV.Refused n d) (CV.Refused m c) e = let (f, g) = refusal e in ap₂ CV.Refused f g
-
-pub measures-differ : (x y : M.Measured) → measureIn x ≡ measureIn y → x ≡ y
-measures-differ (MV.Octets w s) (MV.Octets v t) e =
-    let f = value e in
-    ap₂ MV.Octets (ap (λ (o : Sizes). o .whole) f) (ap (λ (o : Sizes). o .set) f)
-measures-differ (MV.Octets w s) (MV.Refused m d) e = never e
-measures-differ (MV.Refused n d) (MV.Octets v t) e = never-either e
-measures-differ (MV.Refused n d) (MV.Refused m c) e = let (f, g) = refusal e in ap₂ MV.Refused f g
-
--- `fill_layout` and `read_layout`; `compose`; `measure`
 pub one-layout : {x y : Y.Layout} {told : Answer Outline} → outlineIn x ≡ told → outlineIn y ≡ told → x ≡ y
-one-layout = one-told outlineIn layouts-differ
+one-layout = one-told outlineIn layoutFor same-layout
+
+-- `compose`
+abbrev countFor : Answer ℕ → C.Count
+countFor (accepted n) = CV.Of n
+countFor (refused n d) = CV.Refused n d
+
+same-count : (x : C.Count) → countFor (countIn x) ≡ x
+same-count (CV.Of n) = refl
+same-count (CV.Refused n d) = refl
 
 pub one-count : {x y : C.Count} {told : Answer ℕ} → countIn x ≡ told → countIn y ≡ told → x ≡ y
-one-count = one-told countIn counts-differ
+one-count = one-told countIn countFor same-count
+
+-- `measure`
+abbrev measureFor : Answer Sizes → M.Measured
+measureFor (accepted s) = MV.Octets (s .whole) (s .set)
+measureFor (refused n d) = MV.Refused n d
+
+same-measure : (x : M.Measured) → measureFor (measureIn x) ≡ x
+same-measure (MV.Octets w s) = refl
+same-measure (MV.Refused n d) = refl
 
 pub one-measure : {x y : M.Measured} {told : Answer Sizes} → measureIn x ≡ told → measureIn y ≡ told → x ≡ y
-one-measure = one-told measureIn measures-differ
+one-measure = one-told measureIn measureFor same-measure

@@ -16,15 +16,19 @@ use Rattle.component.specs.Composing.{elementSize, setSize, bodySize, oc
 abbrev pub Same : (octets count : ℕ) → Type 0
 Same m n = min m n < 65536 → m ≡ n
 
+pub element-length : (head body : Octets) → length body < 65536 → length (element head body) ≡ elementSize (length head) (length body)
+unfolding element elementSize
+element-length head body h = simp (length-append, L.size (length body) h)
+
 same-element : (head body : Octets) {n : ℕ} → Same (length body) n → Same (length (element head body)) (elementSize (length head) n)
 unfolding element elementSize
 same-element head body {n} e h =
     let k = length-append head (shortest (length body)) in
     let l = length-append (head ++ shortest (length body)) body in
     let f : length body ≡ n = e (omega arith) in
-    omega (arith, L.size (length body) (omega arith) ∙ ap fieldSize f)
+    element-length head body (omega arith) ∙ ap (elementSize (length head)) f
 
-same-set : (ps : List Parameter) → Same (length (setOf ps)) (setSize ps)
+pub same-set : (ps : List Parameter) → Same (length (setOf ps)) (setSize ps)
 unfolding setOf setSize
 same-set [] h = refl
 same-set (p ∷ ps) h =

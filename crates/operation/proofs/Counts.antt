@@ -48,15 +48,10 @@ module _ (s : Octets) (given room : ℕ) (o : AreOctets s) where
   read {x} e = let (y, f, g) = taken (reading s given room) (sym e) in rw (← inner g) (few-shown f)
 
 module _ (kind : ℕ) (id : D.Id) (specifier count : ℕ) (t : List ℕ) (source : Octets) (room : ℕ) where
-  few-id : (b : Bool) (n : ℕ) → if b (leb n 2) (eqb n 1) ≡ true → n ≤ 2
-  few-id true n e = leb-true n 2 e
-  few-id false n e = omega (arith, eqb-true n 1 e)
-
   short : {ps : List Parameter} {s : Octets} → entriesOf kind id count t source ≡ accepted ps → composed (componentOf kind id specifier ps) ≡ s → length s ≤ 4096
-  unfolding idFits
   short {ps} e f =
       let r = ready kind id count t source e in
-      omega (arith, r .short, ap length f, whole kind id specifier ps (r .known) (few-id (eqb kind 0xE9) (id .count) (r .fit)) (r .short))
+      omega (arith, r .short, ap length f, whole kind id specifier ps (r .allowed) (r .short))
 
   few-octets : {s : Octets} → writing kind id specifier count t source room ≡ accepted s → length s ≤ 4096
   unfolding writing octetsOf
