@@ -47,14 +47,14 @@ composes {c = Result id ps} h =
     (element-of _ id (omega arith)) (set-of ps (h .identified) (omega arith)) (element-of _ (setOf ps) (omega arith)) (element-of _ _ (h .size))
 
 -- ---- laid out
-is-element : {head body s : Octets} → Element head body s → s ≡ element head body
+pub is-element : {head body s : Octets} → Element head body s → s ≡ element head body
 unfolding element
 is-element (laid field r) = rw (unique r (short _ (bounded r)))
 
-is-identifier : {number form : ℕ} {field : Octets} → IdentifierField number form field → field ≡ identifier number form
+pub is-identifier : {number form : ℕ} {field : Octets} → IdentifierField number form field → field ≡ identifier number form
 is-identifier (only number form h k) = refl
 
-is-set : {ps : List Parameter} {s : Octets} → Parameters ps s → s ≡ setOf ps
+pub is-set : {ps : List Parameter} {s : Octets} → Parameters ps s → s ≡ setOf ps
 unfolding setOf
 is-set none = refl
 is-set (more p n w r) = rw (is-element w, is-identifier n, is-set r)

@@ -4,12 +4,15 @@ pub mod Ends
 pub mod Inside
 pub mod Steps
 pub mod Walk
+pub mod Faulting
+pub mod Refusing
 pub mod Walking
 pub mod Laying
 pub mod Opening
 pub mod Sound
-pub mod Complete
 pub mod Composes
+pub mod Complete
+pub mod OneFault
 pub mod Decoding
 pub mod Putting
 pub mod Composition

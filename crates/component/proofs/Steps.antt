@@ -28,8 +28,8 @@ module _ (s : Octets) {end : ℕ} (fits : end ≤ length s) {x : Span} where
       let f = h .identified in
       rw (single s, f) at (element {at = at} (omega arith) (h .held))
 
-  pub code : {at : ℕ} → Found s 0xD1 at end x → sizeOf x ≡ 2 → getD s (x .start) 0 ≡ 9
-      → between at (x .end) s ≡ 0xD1 ∷ 2 ∷ 9 ∷ getD s (x .start + 1) 0 ∷ []
+  pub code : {at family : ℕ} → Found s 0xD1 at end x → sizeOf x ≡ 2 → getD s (x .start) 0 ≡ family
+      → between at (x .end) s ≡ 0xD1 ∷ 2 ∷ family ∷ getD s (x .start + 1) 0 ∷ []
   unfolding shortest
   code {at} h k n =
       let field : between (at + 1) (x .start) s ≡ 2 ∷ [] = unique (rw k at (h .held .field)) (short 2 (omega arith)) in

@@ -1,9 +1,11 @@
 pub mod Layout
 pub mod Grammar
+pub mod Faults
 pub mod Shown
 pub mod Listed
 pub mod Table
 pub mod Composed
+pub mod Standing
 pub mod Composable
 pub mod Composing
 pub mod Emitting

@@ -14,7 +14,7 @@ use Rattle.operation.specs.Points.{keys, Points, repeated, missing, neit
 use Rattle.operation.proofs.Lines.{or-false, and-true, self, last}
 
 -- what occurs is counted
-counts : (k : ℕ) (xs : List Item) → occurs k xs ≡ leb 1 (times k (keys xs))
+pub counts : (k : ℕ) (xs : List Item) → occurs k xs ≡ leb 1 (times k (keys xs))
 unfolding occurs times
 counts k [] = refl
 counts k (x ∷ xs) = step (eqb (x .is) k) (times k (keys xs)) (counts k xs)
@@ -24,18 +24,18 @@ counts k (x ∷ xs) = step (eqb (x .is) k) (times k (keys xs)) (counts k xs)
     step false n e = e
 
 module _ (k : ℕ) (xs : List Item) where
-  some : occurs k xs ≡ true → 1 ≤ times k (keys xs)
+  pub some : occurs k xs ≡ true → 1 ≤ times k (keys xs)
   some e = leb-true 1 _ (sym (counts k xs) ∙ e)
 
-  absent : occurs k xs ≡ false → times k (keys xs) ≡ 0
+  pub absent : occurs k xs ≡ false → times k (keys xs) ≡ 0
   absent e = let h : times k (keys xs) < 1 = leb-false 1 _ (sym (counts k xs) ∙ e) in omega arith
 
 -- an item moves from the rest to the seen
-moved : (t : Bool) (a b : ℕ) → if t (1 + a) a + b ≡ a + if t (1 + b) b
+pub moved : (t : Bool) (a b : ℕ) → if t (1 + a) a + b ≡ a + if t (1 + b) b
 moved true a b = omega arith
 moved false a b = omega arith
 
-room : (t : Bool) (a : ℕ) → (t ≡ true → a ≡ 0) → a ≤ 1 → if t (1 + a) a ≤ 1
+pub room : (t : Bool) (a : ℕ) → (t ≡ true → a ≡ 0) → a ≤ 1 → if t (1 + a) a ≤ 1
 room true a z h = omega (arith, z refl)
 room false a z h = h
 

@@ -1,131 +1,171 @@
--- The three demands, to be read beside the paper. Their proofs stand in `proofs/Demand1`, `Demand2` and `Demand3`.
+-- The three demands, to be read beside the paper: what is asked of any reader and any writer, by what a caller sees of them. The words are
+-- the grammar, the faults, and the book's table. `Model` names ours: it satisfies them, and no other does.
 use Prim.Native.Nat.{ℕ, zero, suc, _+_, _*_, _<_, _≤_}
 use mathlib.Core.Path.{_≡_}
-use mathlib.Core.Bool.{Bool, false, not, _||_}
-use mathlib.Core.List.{List, [], _∷_, map}
+use mathlib.Core.Bool.{Bool, false, not}
+use mathlib.Core.List.{List, [], _∷_, _++_, map, List·Memᴰ}
 use mathlib.Core.Logic.{_⊎_}
-use mathlib.Core.Option.{some}
-use lib.ListN.{length, getElem?}
-use lib.Dec.{eqb}
+use lib.ListN.{length, getD, take, drop}
 use Rattle.element.specs.Octets.{Octets, AreOctets, if}
 use Rattle.element.specs.Answer.{Answer, accepted, refused}
 use Rattle.component.specs.declared.Id as D
-use Rattle.component.specs.Layout.{Entry, Layout, layoutOf}
-use Rattle.component.specs.Grammar.{Parameter, Component, Invoke, Result, Laid, parametersOf, kindOf, identifierOf, specifierOf}
-use Rattle.component.specs.Shown.{Shows, Pairwise, specifierIn}
-use Rattle.component.specs.Listed.{Listed}
-use Rattle.component.specs.Table.{idOf}
-use Rattle.component.specs.Composing.{idFits, idOctets, entryStands, octetsNeeded, entriesFrom, outputAfter}
-use Rattle.operation.specs.Row.{Line, must, oneOf, Row, key, numberOf, named as names}
-use Rattle.operation.specs.Rows.{rowOf}
+use Rattle.component.specs.Layout.{Entry}
+use Rattle.component.specs.Grammar.{Parameter, Component, Invoke, Result, parametersOf, kindOf, identifierOf, specifierOf}
+use Rattle.component.specs.Faults.{Faulty, LaidOut, Typed, Allowed}
+use Rattle.component.specs.Composed.{composed}
+use Rattle.component.specs.Standing.{standing, specifierPlace}
+use Rattle.component.specs.Table.{idOf, tableWith}
+use Rattle.component.specs.Composing.{entryOf, idOctets, octetsNeeded, componentOf}
+use Rattle.operation.specs.Row.{Row, key, named as names}
+use Rattle.operation.specs.Rows.{operations}
 use Rattle.operation.specs.Book.{Fits}
-use Rattle.operation.specs.Points.{Points}
-use Rattle.operation.specs.Reading.{Shown, itemOf, reading, tableAfter}
-use Rattle.operation.specs.Writing.{itemsOf, writing}
+use Rattle.operation.specs.Faults.{RowFault}
+use Rattle.operation.specs.Reading.{itemOf}
+use Rattle.operation.specs.Writing.{itemsOf}
+use Rattle.operation.specs.Told.{Told}
 
 abbrev pub keyOf : Parameter → ℕ
 keyOf p = key (p .number) (p .form)
 
--- ---- demand 1: an answer for all octets, lengths and numbers; a refusal is on the paper's list and changes nothing
+-- the book has a row for this operation and component type
+abbrev pub RowFor : (kind specifier : ℕ) → Row → Type 0
+RowFor kind specifier row = List·Memᴰ (record { kind = kind; specifier = specifier; row = row }) operations
 
--- the place of the i-th parameter
-pub record PlaceOf (s : Octets) (i place : ℕ) : Type 0 where
-  pub layout : Layout
-  pub laid : layoutOf s ≡ accepted layout
-  pub entry : Entry
-  pub is : getElem? (layout .entries) i ≡ some entry
-  pub place-is : entry .place ≡ place
-
--- a number of a parameter that the row wants
-pub data Wants : Row → ℕ → Type 0 where
-  one : (j : ℕ) (ls : Row) → Wants (must j ∷ ls) (numberOf j)
-  choice : (i j : ℕ) (ls : Row) → Wants (oneOf i j ∷ ls) (numberOf i)
-  later : (l : Line) {ls : Row} {n : ℕ} → Wants ls n → Wants (l ∷ ls) n
-
-pub data ReaderGives (s : Octets) (given room : ℕ) : (number detail : ℕ) → Type 0 where
-  table : room < 256 → ReaderGives s given room 1 0
-  layout : {n d : ℕ} → layoutOf s ≡ refused n d → Listed n d (length s) → ReaderGives s given room n d
-  -- 11: the specifier's place in an INVOKE, else 0
-  no-row-invoke : (l : Layout) → layoutOf s ≡ accepted l → l .head .kind ≡ 0xE9 → l .head .operation < length s →
-      rowOf (l .head .kind) (specifierIn s l given) 0 ≡ refused 11 0 → ReaderGives s given room 11 (l .head .operation)
-  no-row-result : (l : Layout) → layoutOf s ≡ accepted l → l .head .kind ≡ 0xEA → rowOf (l .head .kind) (specifierIn s l given) 0 ≡ refused 11 0 →
-      ReaderGives s given room 11 0
-  -- 12, 14: the place of a parameter; 13: a number of the row; what is wrong is what `Points` says
-  again : (l : Layout) {row : Row} {i d : ℕ} → layoutOf s ≡ accepted l → rowOf (l .head .kind) (specifierIn s l given) 0 ≡ accepted row →
-      Points row (map itemOf (l .entries)) 12 d → PlaceOf s i d → ReaderGives s given room 12 d
-  missing : (l : Layout) {row : Row} {d : ℕ} → layoutOf s ≡ accepted l → rowOf (l .head .kind) (specifierIn s l given) 0 ≡ accepted row →
-      Points row (map itemOf (l .entries)) 13 d → Wants row d → ReaderGives s given room 13 d
-  both : (l : Layout) {row : Row} {i d : ℕ} → layoutOf s ≡ accepted l → rowOf (l .head .kind) (specifierIn s l given) 0 ≡ accepted row →
-      Points row (map itemOf (l .entries)) 14 d → PlaceOf s i d → ReaderGives s given room 14 d
-
-pub data WriterGives (kind : ℕ) (id : D.Id) (specifier count : ℕ) (table : List ℕ) (source : Octets) (room : ℕ) : (number detail : ℕ) → Type 0 where
-  no-type : (eqb kind 0xE9 || eqb kind 0xEA) ≡ false → WriterGives kind id specifier count table source room 3 0
-  no-id : idFits kind (id .count) ≡ false → WriterGives kind id specifier count table source room 6 0
-  too-many : 64 < count → WriterGives kind id specifier count table source room 10 0
-  no-table : length table < 4 * count → WriterGives kind id specifier count table source room 1 0
-  no-entry : {d : ℕ} → d < count → entryStands table source d ≡ false → WriterGives kind id specifier count table source room 16 d
-  too-long : (ps : List Parameter) → entriesFrom 0 count table source ≡ accepted ps → 4096 < octetsNeeded kind (id .count) ps →
-      WriterGives kind id specifier count table source room 15 (octetsNeeded kind (id .count) ps)
-  no-row : rowOf kind specifier 0 ≡ refused 11 0 → WriterGives kind id specifier count table source room 11 0
-  -- 12, 14: an entry below the count; 13: a number of the row
-  again : (ps : List Parameter) {row : Row} {d : ℕ} → entriesFrom 0 count table source ≡ accepted ps → rowOf kind specifier 0 ≡ accepted row →
-      Points row (itemsOf 0 ps) 12 d → d < count → WriterGives kind id specifier count table source room 12 d
-  missing : (ps : List Parameter) {row : Row} {d : ℕ} → entriesFrom 0 count table source ≡ accepted ps → rowOf kind specifier 0 ≡ accepted row →
-      Points row (itemsOf 0 ps) 13 d → Wants row d → WriterGives kind id specifier count table source room 13 d
-  both : (ps : List Parameter) {row : Row} {d : ℕ} → entriesFrom 0 count table source ≡ accepted ps → rowOf kind specifier 0 ≡ accepted row →
-      Points row (itemsOf 0 ps) 14 d → d < count → WriterGives kind id specifier count table source room 14 d
-  no-room : (ps : List Parameter) → entriesFrom 0 count table source ≡ accepted ps → room < octetsNeeded kind (id .count) ps →
-      WriterGives kind id specifier count table source room 17 (octetsNeeded kind (id .count) ps)
-
-unfoldable pub Demand1 : Type 0
-Demand1 =
-    ((s : Octets) (given : ℕ) (t : List ℕ) (n d : ℕ) → AreOctets s → reading s given (length t) ≡ refused n d →
-    ReaderGives s given (length t) n d × (tableAfter t (reading s given (length t)) ≡ t))
-    × ((kind : ℕ) (id : D.Id) (specifier count : ℕ) (table : List ℕ) (source out : Octets) (n d : ℕ) →
-    writing kind id specifier count table source (length out) ≡ refused n d →
-    WriterGives kind id specifier count table source (length out) n d × (outputAfter out (writing kind id specifier count table source (length out)) ≡ out))
-
--- ---- demand 2: accepted is exactly what fits the layout and the operation's row
-
--- within 4,096 octets and 64 parameters, laid out as the grammar says, with a row, and as the book's table has it
-pub record Right (given : ℕ) (s : Octets) (c : Component) (row : Row) : Type 0 where
-  pub within : length s ≤ 4096
-  pub few : length (parametersOf c) ≤ 64
-  pub laid : Laid c s
-  pub has-row : rowOf (kindOf c) (specifierOf c given) 0 ≡ accepted row
-  pub fits : Fits row (map keyOf (parametersOf c))
+abbrev pub NoRow : (kind specifier : ℕ) → Type 0
+NoRow kind specifier = (row : Row) → RowFor kind specifier row → ⊥
 
 -- how many keys pass a test
 unfoldable pub tally : (ℕ → Bool) → List ℕ → ℕ
 tally test [] = 0
 tally test (k ∷ ks) = if (test k) (1 + tally test ks) (tally test ks)
 
--- what is shown of a component: each parameter in order, one of no octets included, and the counts that the row makes
-pub record Tells (given : ℕ) (s : Octets) (c : Component) (row : Row) (x : Shown) : Type 0 where
-  pub kind : x .kind ≡ kindOf c
-  pub id : x .id ≡ identifierOf c
-  pub specifier : x .specifier ≡ specifierOf c given
-  pub shows : Pairwise (Shows s) (x .entries) (parametersOf c)
-  pub named : x .named ≡ tally (names row) (map keyOf (parametersOf c))
-  pub other : x .other ≡ tally (λ k. not (names row k)) (map keyOf (parametersOf c))
+-- ---- what a caller sees
+-- of a reader: octets, specifier and lent table go in, an answer and the table come back
+pub record Read : Type 0 where
+  pub answer : Answer Told
+  pub table : List ℕ
 
-unfoldable pub Exactly : Type 0
-Exactly = (given room : ℕ) (s : Octets) → AreOctets s → 256 ≤ room →
-    ((x : Shown) → reading s given room ≡ accepted x → (c : Component) × (row : Row) × Right given s c row × Tells given s c row x)
-    × ((c : Component) (row : Row) → Right given s c row → (x : Shown) × (reading s given room ≡ accepted x) × Tells given s c row x)
+abbrev pub Reader : Type 0
+Reader = (octets : Octets) (specifier : ℕ) (table : List ℕ) → Read
 
--- writing what was read returns the same octets
-unfoldable pub ReadThenWrite : Type 0
-ReadThenWrite = (given : ℕ) (s : Octets) (t out : List ℕ) (x : Shown) → AreOctets s →
-    reading s given (length t) ≡ accepted x → length s ≤ length out →
-    writing (x .kind) (idOf (x .id)) (x .specifier) (length (x .entries)) (tableAfter t (accepted x)) s (length out) ≡ accepted s
+-- of a writer: what is ordered and a lent output go in, the octet count and the output come back
+pub record Order : Type 0 where
+  pub kind : ℕ
+  pub id : D.Id
+  pub specifier : ℕ
+  pub count : ℕ
+  pub table : List ℕ
+  pub source : Octets
 
--- reading what was written returns the same type, ID octets, specifier, identifiers and contents
-unfoldable pub WriteThenRead : Type 0
-WriteThenRead = (kind : ℕ) (id : D.Id) (specifier count : ℕ) (t : List ℕ) (source : Octets) (room : ℕ) (s : Octets) → specifier < 256 →
-    writing kind id specifier count t source room ≡ accepted s →
-    (x : Shown) × (ps : List Parameter) × (reading s specifier 256 ≡ accepted x) × (x .kind ≡ kind) × (x .id ≡ idOctets id) × (x .specifier ≡ specifier)
-    × (entriesFrom 0 count t source ≡ accepted ps) × Pairwise (Shows s) (x .entries) ps
+pub record Wrote : Type 0 where
+  pub answer : Answer ℕ
+  pub output : Octets
+
+abbrev pub Writer : Type 0
+Writer = (order : Order) (output : Octets) → Wrote
+
+-- ---- the reader: 1, the faults of the octets, 11, and the faults of the run against its row, each parameter marked by its place
+pub data ReaderRefuses (s : Octets) (given : ℕ) (t : List ℕ) : (number detail : ℕ) → Type 0 where
+  table : length t < 256 → ReaderRefuses s given t 1 0
+  fault : {n d : ℕ} → 256 ≤ length t → Faulty n d s → ReaderRefuses s given t n d
+  no-row : {c : Component} → 256 ≤ length t → LaidOut c s → NoRow (kindOf c) (specifierOf c given) →
+      ReaderRefuses s given t 11 (specifierPlace c)
+  misfit : {c : Component} {row : Row} {n d : ℕ} → 256 ≤ length t → LaidOut c s → RowFor (kindOf c) (specifierOf c given) row →
+      RowFault row (map itemOf (standing c)) n d → ReaderRefuses s given t n d
+
+-- laid out within the limits, with a row, and as the book's table has it
+pub record Right (s : Octets) (given : ℕ) (t : List ℕ) (c : Component) (row : Row) : Type 0 where
+  pub enough : 256 ≤ length t
+  pub laid-out : LaidOut c s
+  pub has-row : RowFor (kindOf c) (specifierOf c given) row
+  pub fits : Fits row (map keyOf (parametersOf c))
+
+-- what is told of it: the counts are those that the row makes
+abbrev pub tells : (given : ℕ) → Component → Row → Told
+tells given c row =
+    record {
+      kind = kindOf c;
+      id = idOf (identifierOf c);
+      specifier = specifierOf c given;
+      all = length (parametersOf c);
+      named = tally (names row) (map keyOf (parametersOf c));
+      other = tally (λ k. not (names row k)) (map keyOf (parametersOf c));
+    }
+
+-- ---- the writer: 3, 6, 10, 1, 16, 15, 11, the faults of the run against its row, each parameter marked by its entry, 17
+pub record EntryStands (o : Order) (i : ℕ) : Type 0 where
+  pub number : getD (o .table) (4 * i) 0 ≤ 16383
+  pub form : getD (o .table) (4 * i + 1) 0 ≤ 1
+  pub content : getD (o .table) (4 * i + 2) 0 + getD (o .table) (4 * i + 3) 0 ≤ length (o .source)
+
+-- the parameters of `count` entries from `i` on
+unfoldable pub parametersFrom : (i count : ℕ) (table : List ℕ) (source : Octets) → List Parameter
+parametersFrom i zero t source = []
+parametersFrom i (suc n) t source = entryOf t source i ∷ parametersFrom (i + 1) n t source
+
+abbrev pub ordered : Order → List Parameter
+ordered o = parametersFrom 0 (o .count) (o .table) (o .source)
+
+abbrev pub needed : Order → ℕ
+needed o = octetsNeeded (o .kind) (o .id .count) (ordered o)
+
+abbrev pub made : Order → Component
+made o = componentOf (o .kind) (o .id) (o .specifier) (ordered o)
+
+-- the entries are there
+pub record Held (o : Order) : Type 0 where
+  pub allowed : Allowed (o .kind) (o .id .count)
+  pub few : o .count ≤ 64
+  pub table : 4 * o .count ≤ length (o .table)
+
+pub record Ready (o : Order) : Type 0 where
+  pub held : Held o
+  pub stand : (i : ℕ) → i < o .count → EntryStands o i
+  pub short : needed o ≤ 4096
+
+pub data WriterRefuses (o : Order) (out : Octets) : (number detail : ℕ) → Type 0 where
+  no-type : (Typed (o .kind) → ⊥) → WriterRefuses o out 3 0
+  no-id : Typed (o .kind) → (Allowed (o .kind) (o .id .count) → ⊥) → WriterRefuses o out 6 0
+  too-many : Allowed (o .kind) (o .id .count) → 64 < o .count → WriterRefuses o out 10 0
+  no-table : Allowed (o .kind) (o .id .count) → o .count ≤ 64 → length (o .table) < 4 * o .count → WriterRefuses o out 1 0
+  no-entry : {i : ℕ} → Held o → i < o .count → ((j : ℕ) → j < i → EntryStands o j) → (EntryStands o i → ⊥) → WriterRefuses o out 16 i
+  too-long : Held o → ((i : ℕ) → i < o .count → EntryStands o i) → 4096 < needed o → WriterRefuses o out 15 (needed o)
+  no-row : Ready o → NoRow (o .kind) (o .specifier) → WriterRefuses o out 11 0
+  misfit : {row : Row} {n d : ℕ} → Ready o → RowFor (o .kind) (o .specifier) row → RowFault row (itemsOf 0 (ordered o)) n d →
+      WriterRefuses o out n d
+  no-room : {row : Row} → Ready o → RowFor (o .kind) (o .specifier) row → Fits row (map keyOf (ordered o)) → length out < needed o →
+      WriterRefuses o out 17 (needed o)
+
+pub record Writable (o : Order) (out : Octets) (row : Row) : Type 0 where
+  pub ready : Ready o
+  pub has-row : RowFor (o .kind) (o .specifier) row
+  pub fits : Fits row (map keyOf (ordered o))
+  pub room : needed o ≤ length out
+
+-- ---- demand 1: a refusal is the one on the paper's list, and changes nothing
+pub record Demand1 (r : Reader) (w : Writer) : Type 0 where
+  pub reader : (s : Octets) (given : ℕ) (t : List ℕ) {n d : ℕ} → AreOctets s → r s given t .answer ≡ refused n d →
+      ReaderRefuses s given t n d × (r s given t .table ≡ t)
+  pub writer : (o : Order) (out : Octets) {n d : ℕ} → w o out .answer ≡ refused n d → WriterRefuses o out n d × (w o out .output ≡ out)
+
+-- ---- demand 2: accepted is exactly what is right; reading and writing undo one another
+pub record Demand2 (r : Reader) (w : Writer) : Type 0 where
+  pub reader : (s : Octets) (given : ℕ) (t : List ℕ) {x : Told} → AreOctets s → r s given t .answer ≡ accepted x →
+      (c : Component) × (row : Row) × Right s given t c row
+  pub shown : (s : Octets) (given : ℕ) (t : List ℕ) {c : Component} {row : Row} → AreOctets s → Right s given t c row →
+      (r s given t .answer ≡ accepted (tells given c row)) × (r s given t .table ≡ tableWith (standing c) t)
+  pub writer : (o : Order) (out : Octets) {n : ℕ} → w o out .answer ≡ accepted n → (row : Row) × Writable o out row
+  pub written : (o : Order) (out : Octets) {row : Row} → Writable o out row →
+      (w o out .answer ≡ accepted (length (composed (made o)))) × (w o out .output ≡ composed (made o) ++ drop (length (composed (made o))) out)
+  -- writing what was read returns the same octets
+  pub read-then-write : (s : Octets) (given : ℕ) (t : List ℕ) (out : Octets) {x : Told} → AreOctets s → r s given t .answer ≡ accepted x →
+      length s ≤ length out → w (record { kind = x .kind; id = x .id; specifier = x .specifier; count = x .all; table = r s given t .table; source = s }) out
+      ≡ record { answer = accepted (length s); output = s ++ drop (length s) out }
+  -- reading what was written returns the same type, ID octets, specifier, identifiers and contents
+  pub write-then-read : (o : Order) (out : Octets) (t : List ℕ) {n : ℕ} → o .specifier < 256 → w o out .answer ≡ accepted n → 256 ≤ length t →
+      AreOctets (take n (w o out .output)) → (x : Told) × (r (take n (w o out .output)) (o .specifier) t .answer ≡ accepted x)
+      × (x .kind ≡ o .kind) × (x .id ≡ idOf (idOctets (o .id))) × (x .specifier ≡ o .specifier) × (x .all ≡ o .count)
+      × (parametersFrom 0 (x .all) (r (take n (w o out .output)) (o .specifier) t .table) (take n (w o out .output)) ≡ ordered o)
 
 -- ---- demand 3: what a row does not name changes nothing of its verdict
 
@@ -142,19 +182,38 @@ moved (kept p j) zero = zero
 moved (kept p j) (suc i) = suc (moved j i)
 moved (newcomer p u j) i = suc (moved j i)
 
--- what is said of the newer component, beside what is said of the older one
-pub data Truthful (given : ℕ) (s t : Octets) (c : Component) {row : Row} {qs : List Parameter} (j : Joined row (parametersOf c) qs) : Answer Shown → Answer Shown → Type 0 where
-  both-accepted : (x y : Shown) → y .kind ≡ x .kind → y .id ≡ x .id → y .specifier ≡ x .specifier → y .named ≡ x .named →
-      Pairwise (Shows s) (x .entries) (parametersOf c) → Pairwise (Shows t) (y .entries) qs → Truthful given s t c j (accepted x) (accepted y)
-  same-missing : (number : ℕ) → Truthful given s t c j (refused 13 number) (refused 13 number)
-  same-parameter : (n i here there : ℕ) → (n ≡ 12) ⊎ (n ≡ 14) → PlaceOf s i here → PlaceOf t (moved j i) there →
-      Truthful given s t c j (refused n here) (refused n there)
+unfoldable pub newcomers : {row : Row} {ps qs : List Parameter} → Joined row ps qs → ℕ
+newcomers done = 0
+newcomers (kept p j) = newcomers j
+newcomers (newcomer p u j) = 1 + newcomers j
+
+-- the place of the i-th entry
+unfoldable pub placeIn : List Entry → ℕ → ℕ
+placeIn [] i = 0
+placeIn (e ∷ es) zero = e .place
+placeIn (e ∷ es) (suc i) = placeIn es i
 
 abbrev pub with : Component → List Parameter → Component
 with (Invoke id specifier ps) qs = Invoke id specifier qs
 with (Result id ps) qs = Result id qs
 
-unfoldable pub StaysTruthful : Type 0
-StaysTruthful = (given room : ℕ) (c : Component) (qs : List Parameter) (s t : Octets) (row : Row) → 256 ≤ room →
-    Laid c s → Laid (with c qs) t → length t ≤ 4096 → length qs ≤ 64 → rowOf (kindOf c) (specifierOf c given) 0 ≡ accepted row →
-    (j : Joined row (parametersOf c) qs) → Truthful given s t c j (reading s given room) (reading t given room)
+-- what is said of the newer component `d`, beside what is said of the older `c`
+pub data Truthful (c d : Component) {row : Row} (j : Joined row (parametersOf c) (parametersOf d)) (t : List ℕ) : Read → Read → Type 0 where
+  both-accepted : (x : Told) → Truthful c d j t (record { answer = accepted x; table = tableWith (standing c) t })
+      (record {
+        answer = accepted (record { kind = x .kind; id = x .id; specifier = x .specifier; all = x .all + newcomers j; named = x .named; other = x .other + newcomers j });
+        table = tableWith (standing d) t;
+      })
+  same-missing : (number : ℕ) → Truthful c d j t (record { answer = refused 13 number; table = t }) (record { answer = refused 13 number; table = t })
+  same-parameter : (n i : ℕ) → (n ≡ 12) ⊎ (n ≡ 14) → i < length (parametersOf c) → Truthful c d j t
+      (record { answer = refused n (placeIn (standing c) i); table = t }) (record { answer = refused n (placeIn (standing d) (moved j i)); table = t })
+
+pub record Demand3 (r : Reader) : Type 0 where
+  pub truthful : (given : ℕ) (c d : Component) (s u : Octets) (t : List ℕ) {row : Row} → AreOctets s → AreOctets u → 256 ≤ length t →
+      LaidOut c s → LaidOut d u → kindOf d ≡ kindOf c → identifierOf d ≡ identifierOf c → specifierOf d given ≡ specifierOf c given →
+      RowFor (kindOf c) (specifierOf c given) row → (j : Joined row (parametersOf c) (parametersOf d)) → Truthful c d j t (r s given t) (r u given t)
+
+pub record Demands (r : Reader) (w : Writer) : Type 0 where
+  pub first : Demand1 r w
+  pub second : Demand2 r w
+  pub third : Demand3 r

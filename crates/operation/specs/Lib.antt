@@ -3,6 +3,7 @@ pub mod Rows
 pub mod Book
 pub mod Newcomers
 pub mod Points
+pub mod Faults
 pub mod Coded
 pub mod Firsts
 pub mod Noting
@@ -11,4 +12,5 @@ pub mod Writing
 pub mod Told
 pub mod Finishing
 pub mod Demands
+pub mod Model
 pub mod Charts

@@ -1,0 +1,287 @@
+-- What has a fault is refused with its number and detail.
+use Prim.Native.Nat.{ℕ, suc, _+_, _-_, _<_, _≤_}
+use mathlib.Core.Path.{_≡_, refl, sym, ap, _∙_}
+use mathlib.Core.Bool.{true, _||_}
+use mathlib.Core.List.{[], _∷_, _++_, append-assoc, append-nil}
+use mathlib.Core.Logic.{inl, inr}
+use lib.ListN.{length, take, drop, getD, length-append, take-append-drop}
+use lib.Seq.{drop-drop, drop-append-seam, getD-drop}
+use lib.Dec.{eqb}
+use borrow.Author.Tests.{lt-ltb, le-ltb, le-leb, lt-leb, eq-eqb, ne-eqb}
+use native.Mathlib.Nat.{add-zero, zero-add}
+use native.Mathlib.Decide.{decLt}
+use native.Mathlib.Omega.{arith}
+use Rattle.element.specs.declared.Length as L
+use Rattle.element.specs.declared.Length.the-variants as LV
+use Rattle.element.specs.declared.Identifier as I
+use Rattle.element.specs.declared.Identifier.the-variants as IV
+use Rattle.element.specs.Octets.{Octets, AreOctets, between}
+use Rattle.element.specs.Answer.{Answer, accepted, refused, _>>=_}
+use Rattle.element.specs.Length.{short, shortest, lengthAt}
+use Rattle.element.specs.Identifier.{identifierAt}
+use Rattle.element.proofs.LengthLaws as Length
+use Rattle.element.proofs.IdentifierLaws as Identifier
+use Rattle.component.specs.Layout.{Span, sizeOf, contents, spanOf, wanted, setAt, Head, operation, invoke, result, headOf, parameter, parameterAt, parameters, Layout, layoutOf}
+use Rattle.component.specs.Grammar.{Element, laid}
+use Rattle.component.specs.Faults.{NoField, NoIdentifier, Unheld, no-field, overrun, Unfound, ended, other, left, InSet, NoSet, NoOperation, NoBody, Whole, Faulty}
+use Rattle.component.specs.Faults as F
+use Rattle.component.proofs.Parts.{octets-between}
+use Rattle.component.proofs.Faulting.{to-end}
+
+-- ---- no field and no identifier are read where none begins
+wrong : {s : Octets} → AreOctets s → NoField s → lengthAt s ≡ LV.Wrong
+wrong {s} o h = go (lengthAt s) refl
+  where
+    go : (l : L.Length) → lengthAt s ≡ l → l ≡ LV.Wrong
+    go (LV.Is n k) e = absurd (h n (take k s) (drop k s) (Length.sound s o e .0) (sym (take-append-drop k s)))
+    go LV.Wrong e = refl
+
+ill-formed : {s : Octets} → AreOctets s → NoIdentifier s → identifierAt s ≡ IV.IllFormed
+ill-formed {s} o h = go (identifierAt s) refl
+  where
+    go : (i : I.Identifier) → identifierAt s ≡ i → i ≡ IV.IllFormed
+    go (IV.Is n f k) e = absurd (h n f (take k s) (drop k s) (Identifier.sound s o e .0) (sym (take-append-drop k s)))
+    go IV.IllFormed e = refl
+    go IV.TooLarge e = absurd (Identifier.never-too-large s o e)
+
+module _ (s : Octets) where
+  -- `t` is what is left from `at` on
+  record Rest (at : ℕ) (t : Octets) : Type 0 where
+    octets : drop at s ≡ t
+    ends : at + length t ≡ length s
+
+  module _ {at : ℕ} {t : Octets} (r : Rest at t) where
+    seen : between at (length s) s ≡ t
+    seen = to-end s at ∙ r .octets
+
+    at-octets : AreOctets s → AreOctets t
+    at-octets o = rw (← seen) (octets-between s o at (length s))
+
+  first : {at a : ℕ} {t : Octets} → Rest at (a ∷ t) → getD s at 0 ≡ a
+  first {at} r = rw add-zero at (sym (getD-drop at s 0 0) ∙ ap (λ t. getD t 0 0) (r .octets))
+
+  behind : {at : ℕ} (a : Octets) {b : Octets} → Rest at (a ++ b) → Rest (at + length a) b
+  behind {at} a {b} r = record {
+    octets = sym (drop-drop (length a) at s) ∙ ap (λ t. drop (length a) t) (r .octets) ∙ drop-append-seam a b;
+    ends = omega (arith, r .ends, length-append a b);
+  }
+
+  moved : {at to : ℕ} {t : Octets} → at ≡ to → Rest at t → Rest to t
+  moved e r = rw e at r
+
+  again : {at : ℕ} {t u : Octets} → t ≡ u → Rest at t → Rest at u
+  again e r = rw e at r
+
+  -- what an element's contents are found as
+  record Body (at : ℕ) (body e rest : Octets) (x : Span) : Type 0 where
+    starts : Rest (x .start) (body ++ rest)
+    ends : x .end ≡ at + length e
+    size : sizeOf x ≡ length body
+    order : x .start ≤ x .end
+
+  contents-found : {at : ℕ} {head body e rest : Octets} → Element head body e → Rest at (e ++ rest) →
+      (x : Span) × (contents s at (at + length head) (length s) ≡ accepted x) × Body at body e rest x
+  unfolding contents spanOf
+  contents-found {at} {head} {body} {rest = rest} (laid field f) r =
+      let p : ((head ++ field) ++ body) ++ rest ≡ head ++ (field ++ (body ++ rest)) = simp append-assoc in
+      let b = behind head (again p r) in
+      let c = behind field b in
+      let from = at + length head in
+      let l = length-append head field in
+      let m = length-append (head ++ field) body in
+      let n = length-append body rest in
+      let z : from + length field + length body ≤ length s = omega (arith, c .ends) in (
+        record { start = from + length field; end = from + length field + length body },
+        rw (seen b, Length.complete f (body ++ rest), le-leb _ _ z),
+        record { starts = c; ends = omega arith; size = omega arith; order = omega arith },
+      )
+
+  wanted-found : {octet at : ℕ} (number : ℕ) {body e rest : Octets} → Element (octet ∷ []) body e → Rest at (e ++ rest) →
+      (x : Span) × (wanted s octet number at (length s) ≡ accepted x) × Body at body e rest x
+  unfolding wanted
+  wanted-found {octet} {at} number {body} {rest = rest} (laid field f) r =
+      let (x, e, b) = contents-found {head = octet ∷ []} {body = body} {rest = rest} (laid field f) r in
+      (x, rw (lt-ltb at (length s) (omega (arith, r .ends)), eq-eqb _ _ (first r)) e, b)
+
+  -- what a head goes on with
+  walk : Head → Answer Layout
+  walk h = parameters 64 s (h .set .start) (h .set .end) >>= λ es. accepted (record { head = h; entries = es })
+
+begun : {head t : Octets} {at n d : ℕ} → Unheld head at t n d → (u : Octets) × (t ≡ head ++ u)
+begun (no-field u h) = (u, refl)
+begun (overrun {field = field} rest f h) = (field ++ rest, refl)
+
+begins : {head body e : Octets} → Element head body e → (rest : Octets) → (u : Octets) × (e ++ rest ≡ head ++ u)
+begins {head} {body} (laid field f) rest = (field ++ (body ++ rest), simp append-assoc)
+
+code : (family specifier : ℕ) → Element (0xD1 ∷ []) (family ∷ specifier ∷ []) (0xD1 ∷ 2 ∷ family ∷ specifier ∷ [])
+unfolding shortest
+code family specifier = laid (shortest 2) (short 2 (omega arith))
+
+module _ (s : Octets) (o : AreOctets s) where
+  contents-refused : {head t : Octets} {at n d : ℕ} → Unheld head at t n d → Rest s at t → contents s at (at + length head) (length s) ≡ refused n d
+  unfolding contents spanOf
+  contents-refused {head} (no-field u h) r = let b = behind s head r in rw (seen s b, wrong (at-octets s b o) h)
+  contents-refused {head} {at = at} (overrun {n} {field} rest f h) r =
+      let b = behind s head r in
+      let c = behind s field b in
+      rw (seen s b, Length.complete f rest, lt-leb (at + length head + length field + n) (length s) (omega (arith, c .ends)))
+
+  wanted-refused : {octet number at n d : ℕ} {t : Octets} → Unfound octet number at t n d → Rest s at t → wanted s octet number at (length s) ≡ refused n d
+  unfolding wanted
+  wanted-refused {at = at} ended r = let e : at ≡ length s = omega (arith, r .ends) in rw (le-ltb at (length s) (omega arith)) (ap (λ k. refused 5 k) (sym e))
+  wanted-refused {at = at} (other {a} h) r = rw (lt-ltb at (length s) (omega (arith, r .ends)), first s r, ne-eqb a _ h)
+  wanted-refused {octet} {at = at} (Unfound.unheld f) r =
+      let (u, e) = begun f in
+      let q = again s e r in
+      rw (lt-ltb at (length s) (omega (arith, q .ends)), eq-eqb _ _ (first s q)) (contents-refused f r)
+
+  -- ---- the parameters
+  parameters-refused : {room at : ℕ} {t : Octets} {n d : ℕ} → InSet room at t n d → Rest s at t → parameters room s at (length s) ≡ refused n d
+  unfolding parameters parameterAt parameter
+  parameters-refused {at = at} InSet.one-too-many r = rw (lt-leb (length s) at (omega (arith, r .ends)))
+  parameters-refused {at = at} (InSet.no-identifier h) r =
+      rw (lt-leb (length s) at (omega (arith, r .ends)), seen s r, ill-formed (at-octets s r o) h)
+  parameters-refused {at = at} (InSet.unheld {head = head} i f) r =
+      let (u, e) = begun f in
+      let q = again s e r in
+      let z = length-append head u in
+      rw (lt-leb (length s) at (omega (arith, q .ends, Identifier.sizes i)), seen s q, Identifier.complete i u, contents-refused f r)
+  parameters-refused {room = suc room} {at = at} (InSet.later {head = head} {body} {e} {rest} i l f) r =
+      let (x, g, b) = contents-found s l r in
+      let (u, h) = begins l rest in
+      let q = again s h r in
+      let z = length-append head u in
+      let m : x .start + (x .end - x .start) ≡ at + length e = omega (arith, b .ends, b .order) in
+      let k = parameters-refused f (behind s e r) in
+      rw (lt-leb (length s) at (omega (arith, q .ends, Identifier.sizes i)), seen s q, Identifier.complete i u, g, m, k)
+
+  -- ---- the head, and the walk over the parameters behind it
+  module _ (kind : ℕ) (id : Span) (operation : ℕ) where
+    abbrev headed : Span → Answer Head
+    headed f = accepted (record { kind = kind; id = id; operation = operation; set = f })
+
+    set-refused : {at : ℕ} {t : Octets} {n d : ℕ} → NoSet at t n d → Rest s at t → ((setAt s at (length s) >>= headed) >>= walk s) ≡ refused n d
+    unfolding setAt walk
+    set-refused (NoSet.unfound f) r = rw (wanted-refused f r)
+    set-refused (NoSet.left-over (left {body} {e} a rest l)) r =
+        let (x, g, b) = wanted-found s 8 l r in
+        let z = length-append e (a ∷ rest) in
+        let h : x .end < length s = omega (arith, b .ends, r .ends) in
+        rw (g, ne-eqb (x .end) (length s) (omega arith)) (ap (λ k. refused 5 k) (b .ends))
+    set-refused {at} (NoSet.inside {field} {set} f i) r =
+        let q = again s {u = (0xF2 ∷ (field ++ set)) ++ []} (sym (append-nil _)) r in
+        let (x, g, b) = wanted-found s 8 (laid field f) q in
+        let z = length-append field set in
+        let h : x .end ≡ length s = omega (arith, b .ends, r .ends) in
+        let e : at + (1 + length field) ≡ x .start = omega (arith, b .size, b .ends, b .order) in
+        let k = parameters-refused (rw e at i) (again s (append-nil set) (b .starts)) in
+        rw (g, eq-eqb (x .end) (length s) h, h, k)
+
+  operation-refused : (i : Span) {t : Octets} {n d : ℕ} → NoOperation (i .end) t n d → Rest s (i .end) t → (operation s i (length s) >>= walk s) ≡ refused n d
+  unfolding operation
+  operation-refused i (NoOperation.unfound f) r = rw (wanted-refused f r)
+  operation-refused i (NoOperation.sized {body} {e} rest l h) r =
+      let (x, g, b) = wanted-found s 7 l r in
+      rw (g, ne-eqb (sizeOf x) 2 (λ k. h (sym (b .size) ∙ k)))
+  operation-refused i (NoOperation.family {a} {specifier} {rest} h) r =
+      let (x, g, b) = wanted-found s 7 {rest = rest} (code a specifier) r in
+      rw (g, eq-eqb (sizeOf x) 2 (b .size), first s (b .starts), ne-eqb a 9 h)
+  operation-refused i (NoOperation.behind {specifier} {rest} f) r =
+      let (x, g, b) = wanted-found s 7 {rest = rest} (code 9 specifier) r in
+      let e : i .end + 4 ≡ x .end = sym (b .ends) in
+      rw (g, eq-eqb (sizeOf x) 2 (b .size), first s (b .starts))
+      (set-refused 0xE9 i (x .start + 1) (rw e at f) (moved s e (behind s (0xD1 ∷ 2 ∷ 9 ∷ specifier ∷ []) r)))
+
+  -- the contents of a component
+  module _ (x : Span) (last : x .end ≡ length s) where
+    invoke-refused : {t : Octets} {n d : ℕ} → NoBody 0xE9 (x .start) t n d → Rest s (x .start) t → (invoke s x >>= walk s) ≡ refused n d
+    unfolding invoke
+    invoke-refused (NoBody.unfound f) r = rw (last, wanted-refused f r)
+    invoke-refused (NoBody.sized {id} rest l h) r =
+        let (i, g, b) = wanted-found s 6 l r in
+        let k : 2 < sizeOf i = not-small h (b .size) in
+        rw (last, g, lt-leb (sizeOf i) 2 k)
+      where
+        not-small : {size : ℕ} → (F.Allowed 0xE9 (length id) → ⊥) → size ≡ length id → 2 < size
+        not-small {size} h e = go (decLt 2 size)
+          where
+            go : Dec (2 < size) → 2 < size
+            go (yes k) = k
+            go (no k) = absurd (h (inl (refl, omega arith)))
+    invoke-refused (NoBody.invoked {i = j} k l h f) r =
+        let (i, g, b) = wanted-found s 6 l r in
+        let e : x .start + length j ≡ i .end = sym (b .ends) in
+        rw (last, g, le-leb (sizeOf i) 2 (omega (arith, b .size))) (operation-refused i (rw e at f) (moved s e (behind s j r)))
+    invoke-refused (NoBody.answered k l h f) r = absurd (omega arith)
+
+    result-refused : {t : Octets} {n d : ℕ} → NoBody 0xEA (x .start) t n d → Rest s (x .start) t → (result s x >>= walk s) ≡ refused n d
+    unfolding result
+    result-refused (NoBody.unfound f) r = rw (last, wanted-refused f r)
+    result-refused (NoBody.sized rest l h) r =
+        let (i, g, b) = wanted-found s 6 l r in
+        rw (last, g, ne-eqb (sizeOf i) 1 (λ k. h (inr (refl, sym (b .size) ∙ k))))
+    result-refused (NoBody.invoked k l h f) r = absurd (omega arith)
+    result-refused (NoBody.answered {i = j} k l h f) r =
+        let (i, g, b) = wanted-found s 6 l r in
+        let e : x .start + length j ≡ i .end = sym (b .ends) in
+        rw (last, g, eq-eqb (sizeOf i) 1 (b .size ∙ h)) (set-refused 0xEA i 0 (rw e at f) (moved s e (behind s j r)))
+
+known : {kind : ℕ} → F.Typed kind → (eqb kind 0xE9 || eqb kind 0xEA) ≡ true
+known (inl e) = rw e
+known (inr e) = rw e
+
+all : (s : Octets) → Rest s 0 s
+all s = record { octets = refl; ends = zero-add (length s) }
+
+-- a component of a type, within 4,096 octets
+module _ (s : Octets) (o : AreOctets s) (short : length s ≤ 4096) (some : 0 < length s) where
+  opened : F.Typed (getD s 0 0) → {n d : ℕ} → contents s 0 1 (length s) ≡ refused n d → layoutOf s ≡ refused n d
+  unfolding layoutOf headOf
+  opened typed e = rw (lt-ltb 0 (length s) some, le-leb (length s) 4096 short, known typed, e)
+
+  longer : F.Typed (getD s 0 0) → {x : Span} → contents s 0 1 (length s) ≡ accepted x → x .end < length s → layoutOf s ≡ refused 5 (x .end)
+  unfolding layoutOf headOf
+  longer typed {x} e h = rw (lt-ltb 0 (length s) some, le-leb (length s) 4096 short, known typed, e, ne-eqb (x .end) (length s) (omega arith))
+
+  filled : F.Typed (getD s 0 0) → {x : Span} → contents s 0 1 (length s) ≡ accepted x → x .end ≡ length s → {t : Octets} {n d : ℕ} →
+      NoBody (getD s 0 0) (x .start) t n d → Rest s (x .start) t → layoutOf s ≡ refused n d
+  unfolding layoutOf headOf walk
+  filled (inl k) {x} e last f r =
+      rw (lt-ltb 0 (length s) some, le-leb (length s) 4096 short, k, e, eq-eqb (x .end) (length s) last) (invoke-refused s o x last (rw k at f) r)
+  filled (inr k) {x} e last f r =
+      rw (lt-ltb 0 (length s) some, le-leb (length s) 4096 short, k, e, eq-eqb (x .end) (length s) last) (result-refused s o x last (rw k at f) r)
+
+  whole-refused : {kind : ℕ} {t : Octets} {n d : ℕ} → s ≡ t → F.Typed kind → Whole kind t n d → layoutOf s ≡ refused n d
+  whole-refused p typed (Whole.unheld f) =
+      let (u, e) = begun f in
+      let r = again s p (all s) in
+      opened (rw (← first s (again s e r)) at typed) (contents-refused s o f r)
+  whole-refused p typed (Whole.left-over (left {body} {e} a rest l)) =
+      let r = again s p (all s) in
+      let (x, g, b) = contents-found s l r in
+      let (u, h) = begins l (a ∷ rest) in
+      let z = length-append e (a ∷ rest) in
+      let k : x .end ≡ length e = b .ends ∙ zero-add (length e) in
+      longer (rw (← first s (again s h r)) at typed) g (omega (arith, r .ends)) ∙ ap (λ k. refused 5 k) (b .ends)
+  whole-refused {kind} p typed (Whole.inside {field} {body} f h) =
+      let r = again s p (all s) in
+      let q = again s (sym (append-nil _)) r in
+      let (x, g, b) = contents-found s {head = kind ∷ []} {body = body} {rest = []} (laid field f) q in
+      let z = length-append field body in
+      let e : 1 + length field ≡ x .start = omega (arith, b .size, b .ends, b .order) in
+      let k = first s r in
+      filled (rw (← k) at typed) g (omega (arith, b .ends, r .ends)) (rw (← k, e) at h) (again s (append-nil body) (b .starts))
+
+some : {kind : ℕ} {t : Octets} {n d : ℕ} → Whole kind t n d → 0 < length t
+some (Whole.unheld f) = let (u, e) = begun f in rw e (omega arith)
+some (Whole.left-over (left a rest l)) = let (u, e) = begins l (a ∷ rest) in rw e (omega arith)
+some (Whole.inside f h) = omega arith
+
+-- ---- back: a fault is what the layout refuses with
+pub refuses : {s : Octets} → AreOctets s → {n d : ℕ} → Faulty n d s → layoutOf s ≡ refused n d
+unfolding layoutOf headOf
+refuses o Faulty.empty = refl
+refuses {s} o (Faulty.long h) = rw (lt-ltb 0 (length s) (omega arith), lt-leb (length s) 4096 h)
+refuses {s} o (Faulty.untyped {a} h f) = rw (lt-ltb 0 (length s) (omega arith), le-leb (length s) 4096 h, ne-eqb a 0xE9 (λ e. f (inl e)), ne-eqb a 0xEA (λ e. f (inr e)))
+refuses {s} o (Faulty.whole h typed f) = whole-refused s o h (some f) refl typed f

@@ -1,0 +1,90 @@
+-- The faults of a component, the twin of `Laid`: which octets have the paper's `number` and `detail`. What is laid out stands first, and
+-- behind it what cannot be; `at` counts the octets before it. E9, EA and F2 end where their parent ends, so every parent ends with the octets.
+use Prim.Native.Nat.{ℕ, zero, suc, _+_, _<_, _≤_}
+use mathlib.Core.Path.{_≡_}
+use mathlib.Core.List.{[], _∷_, _++_}
+use mathlib.Core.Logic.{_⊎_}
+use lib.ListN.{length}
+use Rattle.element.specs.Octets.{Octets}
+use Rattle.element.specs.Length.{LengthField}
+use Rattle.element.specs.Identifier.{IdentifierField}
+use Rattle.component.specs.Grammar.{Element, Component, Laid, parametersOf}
+
+-- ---- one element
+-- no length field begins what is left of the parent, and no identifier does
+abbrev pub NoField : Octets → Type 0
+NoField s = (n : ℕ) (field rest : Octets) → LengthField n field → s ≡ field ++ rest → ⊥
+
+abbrev pub NoIdentifier : Octets → Type 0
+NoIdentifier s = (number form : ℕ) (head rest : Octets) → IdentifierField number form head → s ≡ head ++ rest → ⊥
+
+-- 4, 5: an element with this identifier stands at `at`, and its length field is none, or says more than the parent has
+pub data Unheld (head : Octets) (at : ℕ) : Octets → (number detail : ℕ) → Type 0 where
+  no-field : (s : Octets) → NoField s → Unheld head at (head ++ s) 4 (at + length head)
+  overrun : {n : ℕ} {field : Octets} (rest : Octets) → LengthField n field → length rest < n → Unheld head at (head ++ (field ++ rest)) 5 at
+
+-- 5 and `number`: an element of this one octet is wanted at `at`; the parent has ended, another octet stands there, or no contents
+pub data Unfound (octet number at : ℕ) : Octets → (number detail : ℕ) → Type 0 where
+  ended : Unfound octet number at [] 5 at
+  other : {a : ℕ} {s : Octets} → (a ≡ octet → ⊥) → Unfound octet number at (a ∷ s) number at
+  unheld : {s : Octets} {n d : ℕ} → Unheld (octet ∷ []) at s n d → Unfound octet number at s n d
+
+-- 5: the element has to end where its parent ends, and octets are left over
+pub data LeftOver (head : Octets) (at : ℕ) : Octets → (number detail : ℕ) → Type 0 where
+  left : {body e : Octets} (a : ℕ) (rest : Octets) → Element head body e → LeftOver head at (e ++ (a ∷ rest)) 5 (at + length e)
+
+-- ---- the parameters, of which `room` more are allowed: 10, 9, and 4 and 5 of each
+pub data InSet : (room at : ℕ) → Octets → (number detail : ℕ) → Type 0 where
+  one-too-many : {at a : ℕ} {s : Octets} → InSet zero at (a ∷ s) 10 at
+  no-identifier : {room at a : ℕ} {s : Octets} → NoIdentifier (a ∷ s) → InSet (suc room) at (a ∷ s) 9 at
+  unheld : {room at number form : ℕ} {head s : Octets} {n d : ℕ} → IdentifierField number form head → Unheld head at s n d → InSet (suc room) at s n d
+  later : {room at number form : ℕ} {head body e rest : Octets} {n d : ℕ} → IdentifierField number form head → Element head body e
+      → InSet room (at + length e) rest n d → InSet (suc room) at (e ++ rest) n d
+
+-- ---- the set: 8, and 5 where it ends early
+pub data NoSet (at : ℕ) : Octets → (number detail : ℕ) → Type 0 where
+  unfound : {s : Octets} {n d : ℕ} → Unfound 0xF2 8 at s n d → NoSet at s n d
+  left-over : {s : Octets} {n d : ℕ} → LeftOver (0xF2 ∷ []) at s n d → NoSet at s n d
+  inside : {field set : Octets} {n d : ℕ} → LengthField (length set) field → InSet 64 (at + (1 + length field)) set n d
+      → NoSet at (0xF2 ∷ (field ++ set)) n d
+
+-- ---- the operation code and what stands behind it: 7 for another octet, another length, another family
+pub data NoOperation (at : ℕ) : Octets → (number detail : ℕ) → Type 0 where
+  unfound : {s : Octets} {n d : ℕ} → Unfound 0xD1 7 at s n d → NoOperation at s n d
+  sized : {body e : Octets} (rest : Octets) → Element (0xD1 ∷ []) body e → (length body ≡ 2 → ⊥) → NoOperation at (e ++ rest) 7 at
+  family : {a specifier : ℕ} {rest : Octets} → (a ≡ 9 → ⊥) → NoOperation at (0xD1 ∷ 2 ∷ a ∷ specifier ∷ rest) 7 at
+  behind : {specifier : ℕ} {rest : Octets} {n d : ℕ} → NoSet (at + 4) rest n d → NoOperation at (0xD1 ∷ 2 ∷ 9 ∷ specifier ∷ rest) n d
+
+-- ---- the component ID and what stands behind it, in a component of this type: 6 for another octet, or a length not allowed
+abbrev pub Allowed : (kind size : ℕ) → Type 0
+Allowed kind size = ((kind ≡ 0xE9) × (size ≤ 2)) ⊎ ((kind ≡ 0xEA) × (size ≡ 1))
+
+pub data NoBody (kind at : ℕ) : Octets → (number detail : ℕ) → Type 0 where
+  unfound : {s : Octets} {n d : ℕ} → Unfound 0xCF 6 at s n d → NoBody kind at s n d
+  sized : {id i : Octets} (rest : Octets) → Element (0xCF ∷ []) id i → (Allowed kind (length id) → ⊥) → NoBody kind at (i ++ rest) 6 at
+  invoked : {id i rest : Octets} {n d : ℕ} → kind ≡ 0xE9 → Element (0xCF ∷ []) id i → length id ≤ 2 → NoOperation (at + length i) rest n d
+      → NoBody kind at (i ++ rest) n d
+  answered : {id i rest : Octets} {n d : ℕ} → kind ≡ 0xEA → Element (0xCF ∷ []) id i → length id ≡ 1 → NoSet (at + length i) rest n d
+      → NoBody kind at (i ++ rest) n d
+
+-- ---- the component: 2, 3, then E9 or EA, whose length field stands at 1
+abbrev pub Typed : ℕ → Type 0
+Typed kind = (kind ≡ 0xE9) ⊎ (kind ≡ 0xEA)
+
+pub data Whole (kind : ℕ) : Octets → (number detail : ℕ) → Type 0 where
+  unheld : {s : Octets} {n d : ℕ} → Unheld (kind ∷ []) 0 s n d → Whole kind s n d
+  left-over : {s : Octets} {n d : ℕ} → LeftOver (kind ∷ []) 0 s n d → Whole kind s n d
+  inside : {field body : Octets} {n d : ℕ} → LengthField (length body) field → NoBody kind (1 + length field) body n d
+      → Whole kind (kind ∷ (field ++ body)) n d
+
+pub data Faulty : (number detail : ℕ) → Octets → Type 0 where
+  empty : Faulty 2 0 []
+  long : {s : Octets} → 4096 < length s → Faulty 2 0 s
+  untyped : {a : ℕ} {s : Octets} → length (a ∷ s) ≤ 4096 → (Typed a → ⊥) → Faulty 3 0 (a ∷ s)
+  whole : {kind : ℕ} {s : Octets} {n d : ℕ} → length s ≤ 4096 → Typed kind → Whole kind s n d → Faulty n d s
+
+-- ---- and what has none: laid out, within 4,096 octets and 64 parameters
+pub record LaidOut (c : Component) (s : Octets) : Type 0 where
+  pub laid : Laid c s
+  pub within : length s ≤ 4096
+  pub few : length (parametersOf c) ≤ 64

@@ -1,0 +1,137 @@
+-- What the paper's list shuts out: none of these satisfies the demands, since each differs from ours on one input.
+use Prim.Native.Nat.{ℕ}
+use mathlib.Core.Path.{_≡_, refl, sym, ap, _∙_}
+use mathlib.Core.List.{List, [], _∷_}
+use lib.ListN.{getD, drop, replicate}
+use native.Mathlib.Omega.{arith}
+use Rattle.element.specs.Octets.{Octets, AreOctets}
+use Rattle.element.specs.Answer.{Answer, accepted, refused}
+use Rattle.element.specs.Length.{lengthAt, shortest, fieldSize}
+use Rattle.element.specs.Identifier.{within, numbered, identifierAt, identifier, identifierSize}
+use Rattle.element.proofs.Reading.{small}
+use Rattle.component.specs.Layout.{spanOf, contents, wanted, setAt, operation, invoke, result, headOf, parameter, parameterAt, parameters, layoutOf}
+use Rattle.component.specs.Shown.{specifierIn}
+use Rattle.component.specs.Table.{numbers, tableWith, idOf, fits}
+use Rattle.component.specs.Composed.{element, setOf, composed}
+use Rattle.component.specs.Composing.{entryOf, entryStands, entriesFrom, elementSize, setSize, bodySize, octetsNeeded, idFits, idOctets, componentOf, entriesOf, octetsOf, written, outputAfter}
+use Rattle.operation.specs.Row.{key, numberOf, onLine, named, repeats, occurs, lastMark, once, present, single, judge, countNamed}
+use Rattle.operation.specs.Rows.{operations, find, rowOf}
+use Rattle.operation.specs.Reading.{itemOf, countOther, reading, tableAfter}
+use Rattle.operation.specs.Writing.{itemsOf, writing}
+use Rattle.operation.specs.Told.{Told, told}
+use Rattle.operation.specs.Demands.{Reader, Order, Writer, Demands}
+use Rattle.operation.specs.Model.{reader, writer, OnlyOne}
+use Rattle.operation.proofs.OnlyOne.{only-one}
+
+abbrev chart : Octets
+chart = 0xEA ∷ 0x07 ∷ 0xCF ∷ 0x01 ∷ 0x05 ∷ 0xF2 ∷ 0x02 ∷ 0x85 ∷ 0x00 ∷ []
+
+abbrev zeros : List ℕ
+zeros = replicate 256 0
+
+chart-octets : AreOctets chart
+chart-octets = small chart (omega arith)
+
+-- what ours says of it, and what it leaves
+shown : reader chart 4 zeros ≡ record {
+  answer = accepted (record { kind = 0xEA; id = record { count = 1; first = 5; second = 0 }; specifier = 4; all = 1; named = 1; other = 0 });
+  table = 5 ∷ 0 ∷ 9 ∷ 0 ∷ replicate 252 0;
+}
+unfolding lengthAt within numbered identifierAt spanOf contents wanted setAt operation invoke result headOf parameter parameterAt parameters layoutOf specifierIn key numberOf onLine named repeats occurs lastMark once present single judge countNamed operations find rowOf itemOf countOther reading told tableAfter numbers tableWith idOf
+shown = refl
+
+shown-empty : reader [] 4 zeros ≡ record { answer = refused 2 0; table = zeros }
+unfolding lengthAt within numbered identifierAt spanOf contents wanted setAt operation invoke result headOf parameter parameterAt parameters layoutOf specifierIn key numberOf onLine named repeats occurs lastMark once present single judge countNamed operations find rowOf itemOf countOther reading told tableAfter numbers tableWith idOf
+shown-empty = refl
+
+shown-other : reader chart 26 zeros ≡ record {
+  answer = accepted (record { kind = 0xEA; id = record { count = 1; first = 5; second = 0 }; specifier = 26; all = 1; named = 0; other = 1 });
+  table = 5 ∷ 0 ∷ 9 ∷ 0 ∷ replicate 252 0;
+}
+unfolding lengthAt within numbered identifierAt spanOf contents wanted setAt operation invoke result headOf parameter parameterAt parameters layoutOf specifierIn key numberOf onLine named repeats occurs lastMark once present single judge countNamed operations find rowOf itemOf countOther reading told tableAfter numbers tableWith idOf
+shown-other = refl
+
+shown-rowless : reader chart 0 zeros ≡ record { answer = refused 11 0; table = zeros }
+unfolding lengthAt within numbered identifierAt spanOf contents wanted setAt operation invoke result headOf parameter parameterAt parameters layoutOf specifierIn key numberOf onLine named repeats occurs lastMark once present single judge countNamed operations find rowOf itemOf countOther reading told tableAfter numbers tableWith idOf
+shown-rowless = refl
+
+abbrev two : Octets
+two = 0xEA ∷ 0x09 ∷ 0xCF ∷ 0x01 ∷ 0x05 ∷ 0xF2 ∷ 0x04 ∷ 0x85 ∷ 0x00 ∷ 0x87 ∷ 0x00 ∷ []
+
+two-octets : AreOctets two
+two-octets = small two (omega arith)
+
+shown-two : reader two 4 zeros ≡ record {
+  answer = accepted (record { kind = 0xEA; id = record { count = 1; first = 5; second = 0 }; specifier = 4; all = 2; named = 1; other = 1 });
+  table = 5 ∷ 0 ∷ 9 ∷ 0 ∷ 7 ∷ 0 ∷ 11 ∷ 0 ∷ replicate 248 0;
+}
+unfolding lengthAt within numbered identifierAt spanOf contents wanted setAt operation invoke result headOf parameter parameterAt parameters layoutOf specifierIn key numberOf onLine named repeats occurs lastMark once present single judge countNamed operations find rowOf itemOf countOther reading told tableAfter numbers tableWith idOf
+shown-two = refl
+
+abbrev order : Order
+order = record { kind = 0xEA; id = record { count = 1; first = 5; second = 0 }; specifier = 4; count = 1; table = 5 ∷ 0 ∷ 0 ∷ 0 ∷ []; source = [] }
+
+composed-so : writer order (replicate 9 0) ≡ record { answer = accepted 9; output = chart }
+unfolding shortest fieldSize identifier identifierSize key numberOf onLine named repeats occurs lastMark once present single judge countNamed operations find rowOf element setOf composed fits entryOf entryStands entriesFrom elementSize setSize bodySize octetsNeeded idFits idOctets componentOf entriesOf octetsOf written outputAfter itemsOf writing
+composed-so = refl
+
+abbrev number : Answer Told → ℕ
+number (accepted x) = 0
+number (refused n d) = n
+
+module _ (r : Reader) (w : Writer) (d : Demands r w) where
+  ours-is : (s : Octets) (given : ℕ) (t : List ℕ) → AreOctets s → r s given t ≡ reader s given t
+  unfolding OnlyOne
+  ours-is = only-one r w d .0
+
+  pub not-always-refusing : ((s : Octets) (given : ℕ) (t : List ℕ) → (n : ℕ) × (e : ℕ) × (r s given t .answer ≡ refused n e)) → ⊥
+  not-always-refusing h =
+      let (n, e, p) = h chart 4 zeros in
+      let q = ap (λ x. x .answer) (ours-is chart 4 zeros chart-octets ∙ shown) in
+      let z : _≡_ {A = ℕ} 0 1 = cc in
+      omega arith
+
+  pub not-filling-nothing : ((s : Octets) (given : ℕ) (t : List ℕ) → r s given t .table ≡ t) → ⊥
+  not-filling-nothing h =
+      let q = ap (λ x. x .table) (ours-is chart 4 zeros chart-octets ∙ shown) in
+      let p : _≡_ {A = List ℕ} zeros (5 ∷ 0 ∷ 9 ∷ 0 ∷ replicate 252 0) = sym (h chart 4 zeros) ∙ q in
+      let z : _≡_ {A = ℕ} 0 5 = ap (λ t. getD t 0 0) p in
+      omega arith
+
+  pub not-constant : (a : Answer Told) → ((s : Octets) (given : ℕ) (t : List ℕ) → r s given t .answer ≡ a) → ⊥
+  not-constant a h =
+      let p = h chart 4 zeros in
+      let q = ap (λ x. x .answer) (ours-is chart 4 zeros chart-octets ∙ shown) in
+      let u = h [] 4 zeros in
+      let v = ap (λ x. x .answer) (ours-is [] 4 zeros (small [] tt) ∙ shown-empty) in
+      let z : _≡_ {A = ℕ} 0 1 = cc in
+      omega arith
+
+  pub not-only-the-first : ((s : Octets) (given : ℕ) (t : List ℕ) → drop 4 (r s given t .table) ≡ drop 4 t) → ⊥
+  not-only-the-first h =
+      let q = ap (λ x. drop 4 (x .table)) (ours-is two 4 zeros two-octets ∙ shown-two) in
+      let z : _≡_ {A = ℕ} 7 0 = ap (λ t. getD t 0 0) (sym q ∙ h two 4 zeros) in
+      omega arith
+
+  pub not-invented : (n : ℕ) → ((s : Octets) (given : ℕ) (t : List ℕ) (x : Told) → r s given t .answer ≡ accepted x → x .named ≡ n) → ⊥
+  not-invented n h =
+      let p = h chart 4 zeros _ (ap (λ x. x .answer) (ours-is chart 4 zeros chart-octets ∙ shown)) in
+      let q = h chart 26 zeros _ (ap (λ x. x .answer) (ours-is chart 26 zeros chart-octets ∙ shown-other)) in
+      omega arith
+
+  -- the verdict on the same octets hangs on the operation
+  pub not-one-verdict : (n : ℕ) → ((given : ℕ) → number (r chart given zeros .answer) ≡ n) → ⊥
+  not-one-verdict n h =
+      let p = ap (λ x. number (x .answer)) (ours-is chart 4 zeros chart-octets ∙ shown) in
+      let q = ap (λ x. number (x .answer)) (ours-is chart 0 zeros chart-octets ∙ shown-rowless) in
+      let a = h 4 in
+      let b = h 0 in
+      let z : _≡_ {A = ℕ} 0 11 = cc in
+      omega arith
+
+  pub not-writing-nothing : ((o : Order) (out : Octets) → w o out .output ≡ out) → ⊥
+  unfolding OnlyOne
+  not-writing-nothing h =
+      let q = ap (λ x. x .output) (only-one r w d .1 order (replicate 9 0) ∙ composed-so) in
+      let z : _≡_ {A = ℕ} 0xEA 0 = ap (λ t. getD t 0 0) (sym q ∙ h order (replicate 9 0)) in
+      omega arith

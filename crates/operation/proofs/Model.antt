@@ -1,0 +1,308 @@
+-- Ours satisfies the demands.
+use Prim.Native.Nat.{ℕ, zero, suc, _+_, _*_, _<_, _≤_}
+use mathlib.Core.Path.{_≡_, refl, sym, ap, ap₂, _∙_}
+use mathlib.Core.List.{List, _∷_, _++_, map}
+use mathlib.Core.Logic.{_⊎_, inl, inr, ⊎-elim}
+use lib.ListN.{length, getD, take, drop}
+use lib.Seq.{take-append-seam}
+use native.Mathlib.Decide.{decLt, decLe, ℕ-discrete}
+use native.Mathlib.Omega.{arith}
+use Rattle.element.specs.Octets.{Octets, AreOctets}
+use Rattle.element.specs.Answer.{Answer, accepted, refused}
+use Rattle.component.specs.Layout.{Layout, layoutOf}
+use Rattle.component.specs.Grammar.{Parameter, Component, parametersOf, kindOf, identifierOf, specifierOf}
+use Rattle.component.specs.Faults.{LaidOut, Typed, Allowed}
+use Rattle.component.specs.Shown.{specifierIn}
+use Rattle.component.specs.Standing.{standing}
+use Rattle.component.specs.Composed.{composed}
+use Rattle.component.specs.Table.{idOf, tableWith}
+use Rattle.component.specs.Composing.{entryOf, entryStands, entriesFrom, idOctets, written, outputAfter}
+use Rattle.component.proofs.Ends.{Ends, gives, given as Ends·given, stopped, then, at-most}
+use Rattle.component.proofs.Asking.{answered}
+use Rattle.component.proofs.Taken.{taken, passed}
+use Rattle.component.proofs.Making.{Makes, makes, entries-again, octets-again}
+use Rattle.component.proofs.Composes.{composes, is-composed, laid-composable}
+use Rattle.component.proofs.Entries.{as-many, table-shown}
+use Rattle.component.proofs.Sound.{sound}
+use Rattle.component.proofs.Complete.{Reads, complete-stands}
+use Rattle.component.proofs.Faulting.{faulty}
+use Rattle.operation.specs.Row.{Row, judge}
+use Rattle.operation.specs.Rows.{rowOf}
+use Rattle.operation.specs.Reading.{Shown, itemOf, reading}
+use Rattle.operation.specs.Writing.{itemsOf, writing}
+use Rattle.operation.specs.Told.{Told, told}
+use Rattle.operation.specs.Demands.{RowFor, Order, ReaderRefuses, Right, tells, EntryStands, parametersFrom, ordered, needed, made, Held, Ready, WriterRefuses, Writable, Demand1, Demand2}
+use Rattle.operation.specs.Model.{reader, writer, written-as}
+use Rattle.operation.proofs.Readings.{either-row, row-ends}
+use Rattle.operation.proofs.RowsFound.{has-row, its-row, has-none}
+use Rattle.operation.proofs.Keys.{fits-read, fits-written}
+use Rattle.operation.proofs.RowFaults.{row-faulty, row-either}
+use Rattle.operation.proofs.OnlyOne.{reader-accepts, refused-so, ready, writer-refuses, writer-accepts}
+
+-- ---- the reader: what is refused is to be refused, and what is accepted is right
+module _ (s : Octets) (o : AreOctets s) where
+  laid-read : {l : Layout} → layoutOf s ≡ accepted l → (c : Component) × LaidOut c s × Reads s c l
+  laid-read {l} e =
+      let (c, laid, _, within, few) = sound s o l e in
+      let (m, f, q) = complete-stands laid within few in
+      let p : m ≡ l = cc in
+      (c, record { laid = laid; within = within; few = few }, rw p at q)
+
+  same-row : {c : Component} {l : Layout} {x : Answer Row} (given : ℕ) → Reads s c l → rowOf (l .head .kind) (specifierIn s l given) 0 ≡ x →
+      rowOf (kindOf c) (specifierOf c given) 0 ≡ x
+  same-row given q e = cc (q .outlines .specifier given, q .outlines .kind)
+
+  module _ (given : ℕ) (t : List ℕ) where
+    abbrev Rightly : Shown → Type 0
+    Rightly _ = (c : Component) × (row : Row) × Right s given t c row
+
+    reader-ends : Ends Rightly (ReaderRefuses s given t) (reading s given (length t))
+    unfolding reading
+    reader-ends =
+        let Q = ReaderRefuses s given t in
+        at-most Q ReaderRefuses.table λ (enough : 256 ≤ length t).
+        then (answered Q (layoutOf s) λ n d e. ReaderRefuses.fault enough (faulty s o e)) λ l e.
+        let (c, h, q) = laid-read e in
+        then (row-ends Q (l .head .kind) (specifierIn s l given) (l .head .operation) λ f. rw (q .operation) (ReaderRefuses.no-row enough h (has-none _ _ (same-row given q f)))) λ row r.
+        let its : RowFor (kindOf c) (specifierOf c given) row = has-row _ _ _ (same-row given q (r 0)) in
+        then (answered Q (judge row (map itemOf (l .entries))) λ n d f. ReaderRefuses.misfit enough h its (row-faulty row _ (rw (q .entries) at f))) λ _ j.
+        gives (c, row, record { enough = enough; laid-out = h; has-row = its; fits = fits-read row (q .outlines .shows) .0 j })
+
+    read-back : {n d : ℕ} → reader s given t .answer ≡ refused n d → reading s given (length t) ≡ refused n d
+    unfolding told
+    read-back {n} {d} e = go (reading s given (length t)) e
+      where
+        go : (a : Answer Shown) → told a ≡ refused n d → a ≡ refused n d
+        go (accepted x) f = let z : _≡_ {A = ℕ} 0 1 = cc in absurd (omega arith)
+        go (refused m c) f =
+            let p : m ≡ n = cc in
+            let q : c ≡ d = cc in
+            ap₂ (λ a b. refused a b) p q
+
+    refuses-rightly : {n d : ℕ} → reader s given t .answer ≡ refused n d → ReaderRefuses s given t n d × (reader s given t .table ≡ t)
+    refuses-rightly e = let f = read-back e in (stopped reader-ends f, refused-so s o given t f .1)
+
+    accepts-rightly : {x : Told} → reader s given t .answer ≡ accepted x → (c : Component) × (row : Row) × Right s given t c row
+    unfolding told
+    accepts-rightly e = let (x, f, _) = taken (reading s given (length t)) e in given-right f
+      where
+        given-right : {x : Shown} → reading s given (length t) ≡ accepted x → Rightly x
+        given-right f = Ends·given reader-ends f
+
+-- ---- the writer: each question of its list, and what follows
+ask : {P R : Type 0} → Dec P → (P → R) → ((P → ⊥) → R) → R
+ask (yes p) f g = f p
+ask (no n) f g = g n
+
+decTyped : (kind : ℕ) → Dec (Typed kind)
+decTyped kind = ask (ℕ-discrete kind 0xE9) (λ e. yes (inl e)) λ n. ask (ℕ-discrete kind 0xEA) (λ e. yes (inr e)) λ m. no (⊎-elim n m)
+
+decAllowed : (kind size : ℕ) → Typed kind → Dec (Allowed kind size)
+decAllowed kind size (inl e) = ask (decLe size 2) (λ h. yes (inl (e, h))) λ n. no (⊎-elim (λ (_, h). n h) (λ (f, _). omega arith))
+decAllowed kind size (inr e) = ask (ℕ-discrete size 1) (λ h. yes (inr (e, h))) λ n. no (⊎-elim (λ (f, _). omega arith) (λ (_, h). n h))
+
+module _ (o : Order) where
+  decEntry : (i : ℕ) → Dec (EntryStands o i)
+  decEntry i =
+      ask (decLe (getD (o .table) (4 * i) 0) 16383) (λ a.
+      ask (decLe (getD (o .table) (4 * i + 1) 0) 1) (λ b.
+      ask (decLe (getD (o .table) (4 * i + 2) 0 + getD (o .table) (4 * i + 3) 0) (length (o .source))) (λ c.
+      yes (record { number = a; form = b; content = c })) λ n. no λ h. n (h .content)) λ n. no λ h. n (h .form)) λ n. no λ h. n (h .number)
+
+  -- the entries below `n` stand, or one is the lowest that does not
+  abbrev Lowest : ℕ → Type 0
+  Lowest n = ((i : ℕ) → i < n → EntryStands o i) ⊎ ((i : ℕ) × (i < n) × ((j : ℕ) → j < i → EntryStands o j) × (EntryStands o i → ⊥))
+
+  lowest : (n : ℕ) → Lowest n
+  lowest zero = inl λ i h. absurd (omega arith)
+  lowest (suc n) = go (lowest n)
+    where
+      below : ((i : ℕ) → i < n → EntryStands o i) → EntryStands o n → (i : ℕ) → Dec (i < n) → i < suc n → EntryStands o i
+      below h e i (yes k) l = h i k
+      below h e i (no k) l = let p : n ≡ i = omega arith in rw p at e
+
+      go : Lowest n → Lowest (suc n)
+      go (inl h) = ask (decEntry n) (λ e. inl λ i k. below h e i (decLt i n) k) λ m. inr (n, omega arith, h, m)
+      go (inr (i, k, h, m)) = inr (i, omega arith, h, m)
+
+  module _ (out : Octets) where
+    abbrev Outcome : Type 0
+    Outcome = ((row : Row) × Writable o out row) ⊎ ((n : ℕ) × (d : ℕ) × WriterRefuses o out n d)
+
+    fits-or-not : Ready o → {row : Row} → RowFor (o .kind) (o .specifier) row → Outcome
+    fits-or-not r {row} e =
+        ⊎-elim (λ (n, d, f). inr (n, d, WriterRefuses.misfit r e f)) (λ j.
+        let f = fits-written row 0 (ordered o) .0 j in
+        ask (decLe (needed o) (length out))
+        (λ h. inl (row, record { ready = r; has-row = e; fits = f; room = h }))
+        (λ n. inr (17, needed o, WriterRefuses.no-room r e f (omega arith)))) (row-either row (itemsOf 0 (ordered o)))
+
+    row-or-not : Ready o → Outcome
+    row-or-not r = ⊎-elim (λ (row, f). fits-or-not r (has-row _ _ row (f 0))) (λ f. inr (11, 0, WriterRefuses.no-row r (has-none _ _ (f 0)))) (either-row (o .kind) (o .specifier))
+
+    held-or-not : Held o → Outcome
+    held-or-not h =
+        ⊎-elim (λ s. ask (decLe (needed o) 4096)
+        (λ k. row-or-not (record { held = h; stand = s; short = k }))
+        (λ n. inr (15, needed o, WriterRefuses.too-long h s (omega arith))))
+        (λ (i, k, l, m). inr (16, i, WriterRefuses.no-entry h k l m)) (lowest (o .count))
+
+    writer-either : Outcome
+    writer-either =
+        ask (decTyped (o .kind)) (λ typed.
+        ask (decAllowed (o .kind) (o .id .count) typed) (λ allowed.
+        ask (decLe (o .count) 64) (λ few.
+        ask (decLe (4 * o .count) (length (o .table))) (λ table.
+        held-or-not (record { allowed = allowed; few = few; table = table }))
+        (λ n. inr (1, 0, WriterRefuses.no-table allowed few (omega arith))))
+        (λ n. inr (10, 0, WriterRefuses.too-many allowed (omega arith))))
+        (λ n. inr (6, 0, WriterRefuses.no-id typed n)))
+        (λ n. inr (3, 0, WriterRefuses.no-type n))
+
+    writes-refusing : {n d : ℕ} → writer o out .answer ≡ refused n d → WriterRefuses o out n d × (writer o out .output ≡ out)
+    unfolding written outputAfter
+    writes-refusing {n} {d} e = go writer-either
+      where
+        go : Outcome → WriterRefuses o out n d × (writer o out .output ≡ out)
+        go (inl (row, h)) = let f = rw (writer-accepts o out h) at e in let z : _≡_ {A = ℕ} 0 1 = cc in absurd (omega arith)
+        go (inr (m, c, f)) =
+            let g = writer-refuses o out f in
+            let k = rw g at e in
+            let p : m ≡ n = cc in
+            let q : c ≡ d = cc in
+            (rw (p, q) at f, rw g)
+
+    writes-accepting : {n : ℕ} → writer o out .answer ≡ accepted n → (row : Row) × Writable o out row
+    unfolding written
+    writes-accepting {n} e = go writer-either
+      where
+        go : Outcome → (row : Row) × Writable o out row
+        go (inl r) = r
+        go (inr (m, c, f)) = let k = rw (writer-refuses o out f) at e in let z : _≡_ {A = ℕ} 0 1 = cc in absurd (omega arith)
+
+pub demand1-ours : Demand1 reader writer
+demand1-ours = record { reader = λ s given t o e. refuses-rightly s o given t e; writer = λ o out e. writes-refusing o out e }
+
+-- ---- reading and writing undo one another
+inner : {A : Type 0} {x y : A} → _≡_ {A = Answer A} (accepted x) (accepted y) → x ≡ y
+inner e = cc
+
+module _ (s : Octets) (given : ℕ) (t : List ℕ) (out : Octets) {c : Component} {row : Row} (r : Right s given t c row) (room : length s ≤ length out) where
+  -- what a reading of `s` hands on
+  abbrev handed : Order
+  handed = record { kind = kindOf c; id = idOf (identifierOf c); specifier = specifierOf c given; count = length (parametersOf c); table = tableWith (standing c) t; source = s }
+
+  composes-again : written-as handed (length out) ≡ accepted s
+  unfolding writing
+  composes-again =
+      let l = r .laid-out in
+      let composable = laid-composable (l .laid) (l .within) in
+      let e = is-composed (l .laid) in
+      let (_, _, z) = complete-stands (l .laid) (l .within) (l .few) in
+      let shows = rw (z .entries) at (z .outlines .shows) in
+      rw (
+        ← as-many shows,
+        entries-again c composable (l .few) shows t,
+        its-row _ _ _ (r .has-row),
+        fits-written row 0 (parametersOf c) .1 (r .fits),
+        octets-again c composable given (length out) (rw e at room),
+        ← e,
+      )
+
+  handed-back : {x : Told} {after : List ℕ} → tells given c row ≡ x → after ≡ tableWith (standing c) t →
+      writer (record { kind = x .kind; id = x .id; specifier = x .specifier; count = x .all; table = after; source = s }) out
+      ≡ record { answer = accepted (length s); output = s ++ drop (length s) out }
+  unfolding written outputAfter
+  handed-back p q = rw (← p, q, composes-again)
+
+reads-then-writes : (s : Octets) (given : ℕ) (t : List ℕ) (out : Octets) {x : Told} → AreOctets s → reader s given t .answer ≡ accepted x →
+    length s ≤ length out → writer (record { kind = x .kind; id = x .id; specifier = x .specifier; count = x .all; table = reader s given t .table; source = s }) out
+    ≡ record { answer = accepted (length s); output = s ++ drop (length s) out }
+reads-then-writes s given t out o e h =
+    let (c, row, r) = accepts-rightly s o given t e in
+    let (p, q) = reader-accepts s o given t r in
+    handed-back s given t out r h (inner (sym p ∙ e)) q
+
+entries-are : (i n : ℕ) (t : List ℕ) (s : Octets) {ps : List Parameter} → entriesFrom i n t s ≡ accepted ps → parametersFrom i n t s ≡ ps
+unfolding entriesFrom parametersFrom
+entries-are i zero t s e = inner e
+entries-are i (suc n) t s e =
+    let (_, f) = passed (entryStands t s i) 16 i e in
+    let (qs, g, h) = taken (entriesFrom (i + 1) n t s) f in
+    ap (λ ps. entryOf t s i ∷ ps) (entries-are (i + 1) n t s g) ∙ inner h
+
+counted : (i n : ℕ) (t : List ℕ) (s : Octets) → length (parametersFrom i n t s) ≡ n
+unfolding parametersFrom
+counted i zero t s = refl
+counted i (suc n) t s = ap suc (counted (i + 1) n t s)
+
+module _ (o : Order) (out : Octets) where
+  writes-well : {row : Row} → Writable o out row →
+      (writer o out .answer ≡ accepted (length (composed (made o)))) × (writer o out .output ≡ composed (made o) ++ drop (length (composed (made o))) out)
+  unfolding written outputAfter
+  writes-well w = let f = writer-accepts o out w in (rw f, rw f)
+
+  abbrev whole : Octets
+  whole = composed (made o)
+
+  -- what was written is right
+  written-right : o .specifier < 256 → {row : Row} → Writable o out row → (t : List ℕ) → 256 ≤ length t →
+      Makes (o .kind) (o .id) (o .specifier) (ordered o) (made o) × Right whole (o .specifier) t (made o) row
+  written-right h {row} w t k =
+      let (m, _, few) = makes (o .kind) (o .id) (o .specifier) (ordered o) (o .count) (o .table) (o .source) h (ready o (w .ready)) in (
+        m,
+        record {
+          enough = k;
+          laid-out = record { laid = composes (m .composable); within = m .composable .size; few = rw (m .parameters-are) few };
+          has-row = rw (m .kind-is, m .specifier-is) (w .has-row);
+          fits = rw (m .parameters-are) (w .fits);
+        },
+      )
+
+  -- and read again
+  abbrev Again : (s : Octets) (t : List ℕ) → Type 0
+  Again s t = (x : Told) × (reader s (o .specifier) t .answer ≡ accepted x)
+      × (x .kind ≡ o .kind) × (x .id ≡ idOf (idOctets (o .id))) × (x .specifier ≡ o .specifier) × (x .all ≡ o .count)
+      × (parametersFrom 0 (x .all) (reader s (o .specifier) t .table) s ≡ ordered o)
+
+  read-whole : o .specifier < 256 → {row : Row} → Writable o out row → (t : List ℕ) → 256 ≤ length t → AreOctets whole → Again whole t
+  read-whole h {row} w t k b =
+      let (m, r) = written-right h w t k in
+      let (p, q) = reader-accepts whole b (o .specifier) t r in
+      let l = r .laid-out in
+      let (y, e, z) = complete-stands (l .laid) (l .within) (l .few) in
+      let composable = laid-composable (l .laid) (l .within) in
+      let shows = rw (z .entries) at (z .outlines .shows) in
+      let (_, f) = table-shown shows (composable .identified) t in
+      let g = entries-are 0 _ _ _ f in
+      let n = as-many shows in
+      let c = counted 0 (o .count) (o .table) (o .source) in (
+        tells (o .specifier) (made o) row,
+        p,
+        m .kind-is,
+        ap idOf (m .id-is),
+        m .specifier-is,
+        ap length (m .parameters-are) ∙ c,
+        rw (q, ← n) (g ∙ m .parameters-are),
+      )
+
+writes-then-reads : (o : Order) (out : Octets) (t : List ℕ) {n : ℕ} → o .specifier < 256 → writer o out .answer ≡ accepted n → 256 ≤ length t →
+    AreOctets (take n (writer o out .output)) → Again o out (take n (writer o out .output)) t
+unfolding written outputAfter
+writes-then-reads o out t {n} h e k b =
+    let (row, w) = writes-accepting o out e in
+    let f = writer-accepts o out w in
+    let g = inner (rw f at e) in
+    let p : take n (writer o out .output) ≡ whole o out = rw (f, ← g) (take-append-seam (whole o out) (drop (length (whole o out)) out)) in
+    rw p (read-whole o out h w t k (rw p at b))
+
+pub demand2-ours : Demand2 reader writer
+demand2-ours =
+    record {
+      reader = λ s given t o e. accepts-rightly s o given t e;
+      shown = λ s given t o r. reader-accepts s o given t r;
+      writer = λ o out e. writes-accepting o out e;
+      written = λ o out w. writes-well o out w;
+      read-then-write = reads-then-writes;
+      write-then-read = writes-then-reads;
+    }

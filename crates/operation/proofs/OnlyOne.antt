@@ -1,0 +1,223 @@
+-- Whatever satisfies the demands gives what ours gives: each refusal and each acceptance that they allow is the one that ours has.
+use Prim.Native.Nat.{ℕ, zero, suc, _+_, _*_, _<_, _≤_}
+use mathlib.Core.Path.{_≡_, refl, sym, ap, ap₂, _∙_}
+use mathlib.Core.Bool.{Bool, true, false, _||_, _&&_}
+use mathlib.Core.List.{List, map}
+use mathlib.Core.Logic.{inl, inr, ⊎-elim}
+use lib.ListN.{length, getD}
+use lib.Dec.{leb, eqb}
+use borrow.Author.Tests.{le-leb, lt-leb, leb-true, eq-eqb, ne-eqb}
+use native.Mathlib.Decide.{decLt}
+use native.Mathlib.Omega.{arith}
+use Rattle.element.specs.Octets.{Octets, AreOctets}
+use Rattle.element.specs.Answer.{Answer, accepted, refused, _>>=_, _>>_, check}
+use Rattle.component.specs.Layout.{Layout, layoutOf}
+use Rattle.component.specs.Grammar.{Parameter, Component, kindOf, specifierOf}
+use Rattle.component.specs.Faults.{LaidOut, Typed, Allowed}
+use Rattle.component.specs.Shown.{specifierIn}
+use Rattle.component.specs.Standing.{standing, specifierPlace}
+use Rattle.component.specs.Composed.{composed}
+use Rattle.component.specs.Table.{tableWith, fits}
+use Rattle.component.specs.Composing.{entryStands, entriesFrom, entriesOf, idFits, octetsNeeded, octetsOf, written, outputAfter}
+use Rattle.component.proofs.Complete.{Reads, complete-stands}
+use Rattle.component.proofs.Entries.{as-many}
+use Rattle.component.proofs.Refusing.{refuses}
+use Rattle.operation.specs.Row.{Row}
+use Rattle.operation.specs.Rows.{rowOf}
+use Rattle.operation.specs.Faults.{RowFault}
+use Rattle.operation.specs.Reading.{itemOf, reading, tableAfter}
+use Rattle.operation.specs.Writing.{writing}
+use Rattle.operation.specs.Told.{Told, told}
+use Rattle.operation.specs.Demands.{Read, Reader, Order, Wrote, Writer, ReaderRefuses, Right, tells, EntryStands, parametersFrom, ordered, made, Held, Ready, WriterRefuses, Writable, Demand1, Demand2}
+use Rattle.operation.specs.Model.{reader, writer, written-as, OnlyOne}
+use Rattle.operation.proofs.Readings.{either-row, anywhere, reads, no-row}
+use Rattle.operation.proofs.RowsFound.{its-row, no-row-found}
+use Rattle.operation.proofs.Keys.{counts-read, fits-read, fits-written}
+use Rattle.operation.proofs.RowFaults.{row-refuses}
+
+-- 11 points wherever it is told to
+nowhere : (kind specifier : ℕ) → rowOf kind specifier 0 ≡ refused 11 0 → (at : ℕ) → rowOf kind specifier at ≡ refused 11 at
+nowhere kind specifier e at =
+    ⊎-elim (λ (row, f). let g = f 0 in let z : _≡_ {A = ℕ} 0 1 = cc in absurd (omega arith)) (λ f. f at) (either-row kind specifier)
+
+-- ---- the reader
+module _ (s : Octets) (o : AreOctets s) (given : ℕ) (t : List ℕ) where
+  -- a component laid out, as ours reads it
+  module _ {c : Component} (enough : 256 ≤ length t) (h : LaidOut c s) where
+    its-layout : (l : Layout) × (layoutOf s ≡ accepted l) × Reads s c l
+    its-layout = complete-stands (h .laid) (h .within) (h .few)
+
+    misfits : {row : Row} {n d : ℕ} → rowOf (kindOf c) (specifierOf c given) 0 ≡ accepted row → RowFault row (map itemOf (standing c)) n d →
+        reading s given (length t) ≡ refused n d
+    misfits {row} has-row f =
+        let (l, e, r) = its-layout in
+        let k : rowOf (l .head .kind) (specifierIn s l given) 0 ≡ accepted row = cc (r .outlines .specifier given) in
+        reads s given (length t) enough e (anywhere _ _ 0 k (l .head .operation)) ∙ rw (r .entries, row-refuses f)
+
+    rowless : rowOf (kindOf c) (specifierOf c given) 0 ≡ refused 11 0 → reading s given (length t) ≡ refused 11 (specifierPlace c)
+    rowless none =
+        let (l, e, r) = its-layout in
+        let k : rowOf (l .head .kind) (specifierIn s l given) 0 ≡ refused 11 0 = cc (r .outlines .specifier given) in
+        no-row s given (length t) enough e (nowhere _ _ k (l .head .operation)) ∙ ap (λ k. refused 11 k) (r .operation)
+
+  pub reader-refuses : {n d : ℕ} → ReaderRefuses s given t n d → reading s given (length t) ≡ refused n d
+  unfolding reading
+  reader-refuses (ReaderRefuses.table h) = rw (lt-leb 256 (length t) h)
+  reader-refuses (ReaderRefuses.fault h f) = rw (le-leb 256 (length t) h, refuses o f)
+  reader-refuses (ReaderRefuses.no-row h l e) = rowless h l (no-row-found _ _ e)
+  reader-refuses (ReaderRefuses.misfit h l e f) = misfits h l (its-row _ _ _ e) f
+
+  pub refused-so : {n d : ℕ} → reading s given (length t) ≡ refused n d → (reader s given t .answer ≡ refused n d) × (reader s given t .table ≡ t)
+  unfolding told tableAfter
+  refused-so e = (rw e, rw e)
+
+  pub reader-accepts : {c : Component} {row : Row} → Right s given t c row → (reader s given t .answer ≡ accepted (tells given c row)) × (reader s given t .table ≡ tableWith (standing c) t)
+  unfolding told tableAfter
+  reader-accepts {c} {row} r =
+      let (l, e, q) = its-layout (r .enough) (r .laid-out) in
+      let u = q .outlines in
+      let k : rowOf (l .head .kind) (specifierIn s l given) 0 ≡ accepted row = cc (u .specifier given, its-row _ _ _ (r .has-row)) in
+      let j = fits-read row (u .shows) .1 (r .fits) in
+      let f = reads s given (length t) (r .enough) e (anywhere _ _ 0 k (l .head .operation)) in
+      let (named, other) = counts-read row (u .shows) in
+      (rw (f, j, named, other, u .specifier given, u .kind, u .id, as-many (u .shows)), rw (f, j, q .entries))
+
+not-le : {n m : ℕ} → (n ≤ m → ⊥) → m < n
+not-le {n} {m} h = go (decLt m n)
+  where
+    go : Dec (m < n) → m < n
+    go (yes k) = k
+    go (no k) = absurd (h (omega arith))
+
+-- ---- the writer
+-- the test of an entry says whether it stands
+module _ (o : Order) where
+  abbrev stands : ℕ → Bool
+  stands i = entryStands (o .table) (o .source) i
+
+  stands-true : (i : ℕ) → EntryStands o i → stands i ≡ true
+  unfolding entryStands fits
+  stands-true i h = rw (le-leb _ _ (h .number), le-leb _ _ (h .form), le-leb _ _ (h .content))
+
+  stands-false : (i : ℕ) → (EntryStands o i → ⊥) → stands i ≡ false
+  unfolding entryStands fits
+  stands-false i h = go (leb (getD (o .table) (4 * i) 0) 16383) (leb (getD (o .table) (4 * i + 1) 0) 1)
+      (leb (getD (o .table) (4 * i + 2) 0 + getD (o .table) (4 * i + 3) 0) (length (o .source))) refl refl refl
+    where
+      go : (a b c : Bool) → leb (getD (o .table) (4 * i) 0) 16383 ≡ a → leb (getD (o .table) (4 * i + 1) 0) 1 ≡ b →
+          leb (getD (o .table) (4 * i + 2) 0 + getD (o .table) (4 * i + 3) 0) (length (o .source)) ≡ c → (a && (b && c)) ≡ false
+      go true true true p q r = absurd (h (record { number = leb-true _ _ p; form = leb-true _ _ q; content = leb-true _ _ r }))
+      go true true false p q r = refl
+      go true false c p q r = refl
+      go false b c p q r = refl
+
+  entries-all : (i n : ℕ) → ((j : ℕ) → j < i + n → i ≤ j → EntryStands o j) →
+      entriesFrom i n (o .table) (o .source) ≡ accepted (parametersFrom i n (o .table) (o .source))
+  unfolding entriesFrom parametersFrom
+  entries-all i zero h = refl
+  entries-all i (suc n) h = rw (stands-true i (h i (omega arith) (omega arith)), entries-all (i + 1) n (λ j k l. h j (omega arith) (omega arith)))
+
+  entries-first : (i n : ℕ) {bad : ℕ} → i ≤ bad → bad < i + n → ((j : ℕ) → j < bad → EntryStands o j) → (EntryStands o bad → ⊥) →
+      entriesFrom i n (o .table) (o .source) ≡ refused 16 bad
+  unfolding entriesFrom
+  entries-first i zero h k s b = absurd (omega arith)
+  entries-first i (suc n) {bad} h k s b = go (decLt i bad) (λ l. entries-first (i + 1) n (omega arith) (omega arith) s b)
+    where
+      go : Dec (i < bad) → (i < bad → entriesFrom (i + 1) n (o .table) (o .source) ≡ refused 16 bad) → entriesFrom i (suc n) (o .table) (o .source) ≡ refused 16 bad
+      go (yes l) later = rw (stands-true i (s i l), later l)
+      go (no l) later = let e : bad ≡ i = omega arith in rw (stands-false i (rw e at b)) (ap (λ k. refused 16 k) (sym e))
+
+module _ (o : Order) where
+  known : Typed (o .kind) → (eqb (o .kind) 0xE9 || eqb (o .kind) 0xEA) ≡ true
+  known (inl e) = rw e
+  known (inr e) = rw e
+
+  unknown : (Typed (o .kind) → ⊥) → (eqb (o .kind) 0xE9 || eqb (o .kind) 0xEA) ≡ false
+  unknown h = rw (ne-eqb (o .kind) 0xE9 (λ e. h (inl e)), ne-eqb (o .kind) 0xEA (λ e. h (inr e)))
+
+  typed : Allowed (o .kind) (o .id .count) → Typed (o .kind)
+  typed (inl h) = inl (h .0)
+  typed (inr h) = inr (h .0)
+
+  id-fits : Allowed (o .kind) (o .id .count) → idFits (o .kind) (o .id .count) ≡ true
+  unfolding idFits
+  id-fits (inl h) = rw (h .0, le-leb _ _ (h .1))
+  id-fits (inr h) = rw (h .0, eq-eqb _ _ (h .1))
+
+  id-not : Typed (o .kind) → (Allowed (o .kind) (o .id .count) → ⊥) → idFits (o .kind) (o .id .count) ≡ false
+  unfolding idFits
+  id-not (inl e) h = rw (e, lt-leb (o .id .count) 2 (not-le λ k. h (inl (e, k))))
+  id-not (inr e) h = rw (e, ne-eqb (o .id .count) 1 (λ k. h (inr (e, k))))
+
+  abbrev entries : Answer (List Parameter)
+  entries = entriesOf (o .kind) (o .id) (o .count) (o .table) (o .source)
+
+  -- the steps up to the entries
+  module _ (h : Held o) where
+    held : {a : Answer (List Parameter)} → entriesFrom 0 (o .count) (o .table) (o .source) ≡ a →
+        entries ≡ (a >>= λ ps. check (leb (octetsNeeded (o .kind) (o .id .count) ps) 4096) 15 (octetsNeeded (o .kind) (o .id .count) ps) >> accepted ps)
+    unfolding entriesOf
+    held e = rw (known (typed (h .allowed)), id-fits (h .allowed), le-leb _ _ (h .few), le-leb _ _ (h .table), e)
+
+  all-stand : ((i : ℕ) → i < o .count → EntryStands o i) → entriesFrom 0 (o .count) (o .table) (o .source) ≡ accepted (ordered o)
+  all-stand h = entries-all o 0 (o .count) (λ j k _. h j (omega arith))
+
+  pub ready : Ready o → entries ≡ accepted (ordered o)
+  ready r = held (r .held) (all-stand (r .stand)) ∙ rw (le-leb _ _ (r .short))
+
+  pub writer-refuses : (out : Octets) {n d : ℕ} → WriterRefuses o out n d → written-as o (length out) ≡ refused n d
+  unfolding writing entriesOf octetsOf
+  writer-refuses out (WriterRefuses.no-type h) = rw (unknown h)
+  writer-refuses out (WriterRefuses.no-id h k) = rw (known h, id-not h k)
+  writer-refuses out (WriterRefuses.too-many h k) = rw (known (typed h), id-fits h, lt-leb _ _ k)
+  writer-refuses out (WriterRefuses.no-table h k l) = rw (known (typed h), id-fits h, le-leb _ _ k, lt-leb _ _ l)
+  writer-refuses out (WriterRefuses.no-entry h k s b) = rw (held h (entries-first o 0 (o .count) (omega arith) (omega arith) s b))
+  writer-refuses out (WriterRefuses.too-long h s k) = rw (held h (all-stand s), lt-leb _ _ k)
+  writer-refuses out (WriterRefuses.no-row r e) = rw (ready r, no-row-found _ _ e)
+  writer-refuses out (WriterRefuses.misfit r e f) = rw (ready r, its-row _ _ _ e, row-refuses f)
+  writer-refuses out (WriterRefuses.no-room r e f k) = rw (ready r, its-row _ _ _ e, fits-written _ 0 (ordered o) .1 f, lt-leb _ _ k)
+
+  pub writer-accepts : (out : Octets) {row : Row} → Writable o out row → written-as o (length out) ≡ accepted (composed (made o))
+  unfolding writing octetsOf
+  writer-accepts out {row} h = rw (ready (h .ready), its-row _ _ _ (h .has-row), fits-written row 0 (ordered o) .1 (h .fits), le-leb _ _ (h .room))
+
+-- ---- there is no other
+same-read : {x y : Read} {a : Answer Told} {t : List ℕ} → x .answer ≡ a → x .table ≡ t → y .answer ≡ a → y .table ≡ t → x ≡ y
+same-read p q r s = ap₂ (λ a t. record { answer = a; table = t }) (p ∙ sym r) (q ∙ sym s)
+
+same-wrote : {x y : Wrote} {a : Answer ℕ} {t : Octets} → x .answer ≡ a → x .output ≡ t → y .answer ≡ a → y .output ≡ t → x ≡ y
+same-wrote p q r s = ap₂ (λ a t. record { answer = a; output = t }) (p ∙ sym r) (q ∙ sym s)
+
+module _ (r : Reader) (w : Writer) (first : Demand1 r w) (second : Demand2 r w) where
+  one-reader : (s : Octets) (given : ℕ) (t : List ℕ) → AreOctets s → r s given t ≡ reader s given t
+  one-reader s given t o = go (r s given t .answer) refl
+    where
+      go : (a : Answer Told) → r s given t .answer ≡ a → r s given t ≡ reader s given t
+      go (accepted x) e =
+          let (c, row, h) = second .reader s given t o e in
+          let (p, q) = second .shown s given t o h in
+          let (m, n) = reader-accepts s o given t h in
+          same-read p q m n
+      go (refused n d) e =
+          let (f, q) = first .reader s given t o e in
+          let (m, k) = refused-so s o given t (reader-refuses s o given t f) in
+          same-read e q m k
+
+  one-writer : (o : Order) (out : Octets) → w o out ≡ writer o out
+  unfolding written outputAfter
+  one-writer o out = go (w o out .answer) refl
+    where
+      go : (a : Answer ℕ) → w o out .answer ≡ a → w o out ≡ writer o out
+      go (accepted n) e =
+          let (row, h) = second .writer o out e in
+          let (p, q) = second .written o out h in
+          let f = writer-accepts o out h in
+          same-wrote p q (rw f) (rw f)
+      go (refused n d) e =
+          let (g, q) = first .writer o out e in
+          let f = writer-refuses o out g in
+          same-wrote e q (rw f) (rw f)
+
+pub only-one : OnlyOne
+unfolding OnlyOne
+only-one r w d = (one-reader r w (d .first) (d .second), one-writer r w (d .first) (d .second))

@@ -1,0 +1,273 @@
+-- A row refuses with the fault that the run has, and with no other.
+use Prim.Native.Nat.{ℕ, _+_, _≤_}
+use mathlib.Core.Path.{_≡_, refl, sym, ap, _∙_}
+use mathlib.Core.Bool.{Bool, true, false, _&&_, _||_, not, true≢false}
+use mathlib.Core.List.{List, [], _∷_, _++_, append-assoc, append-nil}
+use mathlib.Core.Logic.{_⊎_, inl, inr, ⊎-elim, _↔_}
+use lib.Dec.{eqb}
+use borrow.Author.Tests.{eqb-true, le-leb, lt-leb}
+use native.Mathlib.Omega.{arith}
+use Rattle.element.specs.Octets.{if}
+use Rattle.element.specs.Answer.{Answer, accepted, refused, _>>_, check}
+use Rattle.component.proofs.Ends.{Ends, gives, stops}
+use Rattle.operation.specs.Row.{Row, Line, must, oneOf, may, Item, onLine, named, repeats, occurs, lastMark, once, present, single, judge}
+use Rattle.operation.specs.Book.{times, Each, none, more}
+use Rattle.operation.specs.Faults.{keysOf, First, Last, Once, Unmet, asks, Doubled, RowFault, again, missing, both}
+use Rattle.operation.proofs.Judging.{counts, some, absent, moved, room}
+use Rattle.operation.proofs.Lines.{or-false, self}
+
+-- ---- what occurs
+module _ (k : ℕ) (xs : List Item) where
+  occurring : 1 ≤ times k (keysOf xs) → occurs k xs ≡ true
+  occurring h = counts k xs ∙ le-leb 1 _ h
+
+  not-occurring : times k (keysOf xs) ≡ 0 → occurs k xs ≡ false
+  not-occurring h = counts k xs ∙ lt-leb 1 (times k (keysOf xs)) (omega arith)
+
+other : (t : Bool) → (t ≡ true → ⊥) → t ≡ false
+other true h = absurd (h refl)
+other false h = refl
+
+-- ---- 12
+pass : (a b c : Bool) → (a ≡ true → b ≡ false → c ≡ false) → not (a && (not b && c)) ≡ true
+pass true false c h = rw (h refl refl)
+pass true true c h = refl
+pass false b c h = refl
+
+module _ (row : Row) where
+  -- a key that the next item has was not seen
+  fresh : (seen : List Item) (y : Item) (ys : List Item) →
+      ((k : ℕ) → named row k ≡ true → repeats k ≡ false → times k (keysOf seen) + times k (keysOf (y ∷ ys)) ≤ 1) →
+      named row (y .is) ≡ true → repeats (y .is) ≡ false → occurs (y .is) seen ≡ false
+  unfolding times
+  fresh seen y ys h n r = not-occurring (y .is) seen (let e = rw (self (y .is)) at (h (y .is) n r) in omega arith)
+
+  onward : (seen : List Item) (y : Item) (ys : List Item) →
+      ((k : ℕ) → named row k ≡ true → repeats k ≡ false → times k (keysOf seen) + times k (keysOf (y ∷ ys)) ≤ 1) →
+      (k : ℕ) → named row k ≡ true → repeats k ≡ false → times k (keysOf (y ∷ seen)) + times k (keysOf ys) ≤ 1
+  unfolding times
+  onward seen y ys h k n r = rw (moved (eqb (y .is) k) (times k (keysOf seen)) (times k (keysOf ys))) (h k n r)
+
+  once-passes : (seen ys : List Item) → ((k : ℕ) → named row k ≡ true → repeats k ≡ false → times k (keysOf seen) + times k (keysOf ys) ≤ 1) →
+      once row seen ys ≡ accepted tt
+  unfolding once
+  once-passes seen [] h = refl
+  once-passes seen (y ∷ ys) h = rw (pass _ _ _ (fresh seen y ys h)) (once-passes (y ∷ seen) ys (onward seen y ys h))
+
+  once-refuses : (seen before : List Item) (x : Item) (behind : List Item) →
+      ((k : ℕ) → named row k ≡ true → repeats k ≡ false → times k (keysOf seen) + times k (keysOf before) ≤ 1) →
+      named row (x .is) ≡ true → repeats (x .is) ≡ false → 1 ≤ times (x .is) (keysOf seen) + times (x .is) (keysOf before) →
+      once row seen (before ++ (x ∷ behind)) ≡ refused 12 (x .mark)
+  unfolding once times
+  once-refuses seen [] x behind h n r o = let e = occurring (x .is) seen (omega arith) in rw (n, r, e)
+  once-refuses seen (y ∷ before) x behind h n r o =
+      rw (pass _ _ _ (fresh seen y before h))
+      (once-refuses (y ∷ seen) before x behind (onward seen y before h) n r (rw (moved (eqb (y .is) (x .is)) (times (x .is) (keysOf seen)) (times (x .is) (keysOf before))) o))
+
+-- ---- 13
+module _ (xs : List Item) where
+  abbrev Ks : List ℕ
+  Ks = keysOf xs
+
+  -- what is not counted as missing occurs
+  met : (k : ℕ) → (times k Ks ≡ 0 → ⊥) → occurs k xs ≡ true
+  met k h = occurring k xs (omega arith)
+
+  met-one : (i j : ℕ) → ((times i Ks ≡ 0) × (times j Ks ≡ 0) → ⊥) → (occurs i xs || occurs j xs) ≡ true
+  met-one i j h = go (occurs i xs) (occurs j xs) refl refl
+    where
+      go : (a b : Bool) → occurs i xs ≡ a → occurs j xs ≡ b → (a || b) ≡ true
+      go true b p q = refl
+      go false true p q = refl
+      go false false p q = absurd (h (absent i xs p, absent j xs q))
+
+  present-passes : {ls : Row} → Each (λ l. Unmet Ks l → ⊥) ls → present ls xs ≡ accepted tt
+  unfolding present
+  present-passes none = refl
+  present-passes (more {x = must j} h e) = rw (met j h) (present-passes e)
+  present-passes (more {x = oneOf i j} h e) = rw (met-one i j h) (present-passes e)
+  present-passes (more {x = may j} h e) = present-passes e
+
+  present-refuses : {ls : Row} {l : Line} → First (Unmet Ks) ls l → present ls xs ≡ refused 13 (asks l)
+  unfolding present
+  present-refuses (First.here {x = must j} h) = rw (not-occurring j xs h)
+  present-refuses (First.here {x = oneOf i j} h) = rw (not-occurring i xs (h .0), not-occurring j xs (h .1))
+  present-refuses (First.here {x = may j} h) = absurd h
+  present-refuses (First.later {y = must j} h f) = rw (met j h) (present-refuses f)
+  present-refuses (First.later {y = oneOf i j} h f) = rw (met-one i j h) (present-refuses f)
+  present-refuses (First.later {y = may j} h f) = present-refuses f
+
+  -- ---- 14
+  not-last : (l : Line) {ys : List Item} (m : ℕ) → Each (λ y. onLine l (y .is) ≡ true → ⊥) ys → lastMark l m ys ≡ m
+  unfolding lastMark
+  not-last l m none = refl
+  not-last l m (more h e) = rw (other _ h) (not-last l m e)
+
+  is-last : (l : Line) {ys : List Item} {x : Item} (m : ℕ) → Last (λ y. onLine l (y .is) ≡ true) ys x → lastMark l m ys ≡ x .mark
+  unfolding lastMark
+  is-last l m (Last.here {x = x} h e) = rw h (not-last l (x .mark) e)
+  is-last l m (Last.later f) = is-last l _ f
+
+  single-one : (i j : ℕ) → ((1 ≤ times i Ks) × (1 ≤ times j Ks) → ⊥) → not (occurs i xs && occurs j xs) ≡ true
+  single-one i j h = go (occurs i xs) (occurs j xs) refl refl
+    where
+      go : (a b : Bool) → occurs i xs ≡ a → occurs j xs ≡ b → not (a && b) ≡ true
+      go false b p q = refl
+      go true false p q = refl
+      go true true p q = absurd (h (some i xs p, some j xs q))
+
+  single-passes : {ls : Row} → Each (λ l. Doubled Ks l → ⊥) ls → single ls xs ≡ accepted tt
+  unfolding single
+  single-passes none = refl
+  single-passes (more {x = must j} h e) = single-passes e
+  single-passes (more {x = oneOf i j} h e) = rw (single-one i j h) (single-passes e)
+  single-passes (more {x = may j} h e) = single-passes e
+
+  single-refuses : {ls : Row} {l : Line} {x : Item} → First (Doubled Ks) ls l → Last (λ y. onLine l (y .is) ≡ true) xs x → single ls xs ≡ refused 14 (x .mark)
+  unfolding single
+  single-refuses (First.here {x = must j} h) y = absurd h
+  single-refuses (First.here {x = oneOf i j} h) y = rw (occurring i xs (h .0), occurring j xs (h .1)) (ap (λ k. refused 14 k) (is-last (oneOf i j) 0 y))
+  single-refuses (First.here {x = may j} h) y = absurd h
+  single-refuses (First.later {y = must j} h f) y = single-refuses f y
+  single-refuses (First.later {y = oneOf i j} h f) y = rw (single-one i j h) (single-refuses f y)
+  single-refuses (First.later {y = may j} h f) y = single-refuses f y
+
+module _ {row : Row} {xs : List Item} where
+  pub row-refuses : {n d : ℕ} → RowFault row xs n d → judge row xs ≡ refused n d
+  unfolding judge times
+  row-refuses (again before x behind e o n r t) = rw (e, once-refuses row [] before x behind (λ k p q. omega (arith, o k p q)) n r (omega arith))
+  row-refuses (missing o f) = rw (once-passes row [] xs (λ k p q. omega (arith, o k p q)), present-refuses xs f)
+  row-refuses (both o e f y) = rw (once-passes row [] xs (λ k p q. omega (arith, o k p q)), present-passes xs e, single-refuses xs f y)
+
+-- ---- and back: what is refused has the fault
+times-last : (k : ℕ) (before : List Item) (y : Item) → times k (keysOf (before ++ (y ∷ []))) ≡ times k (keysOf (y ∷ before))
+unfolding times
+times-last k [] y = refl
+times-last k (x ∷ before) y = rw (times-last k before y) (swapped (eqb (x .is) k) (eqb (y .is) k) (times k (keysOf before)))
+  where
+    swapped : (a b : Bool) (n : ℕ) → if a (1 + if b (1 + n) n) (if b (1 + n) n) ≡ if b (1 + if a (1 + n) n) (if a (1 + n) n)
+    swapped true true n = refl
+    swapped true false n = refl
+    swapped false true n = refl
+    swapped false false n = refl
+
+module _ (row : Row) where
+  -- one more item, that is no second
+  once-more : (before : List Item) (y : Item) → Once row (keysOf before) → (named row (y .is) ≡ true → repeats (y .is) ≡ false → times (y .is) (keysOf before) ≡ 0) →
+      Once row (keysOf (before ++ (y ∷ [])))
+  unfolding times
+  once-more before y o h k n r =
+      rw (times-last k before y)
+      (room (eqb (y .is) k) (times k (keysOf before)) (λ t. let e = eqb-true (y .is) k t in rw (← e) (h (rw e n) (rw e r))) (o k n r))
+
+  -- the walk for 12: what was seen stands before what is left
+  once-ends : (all seen before ys : List Item) → all ≡ before ++ ys → ((k : ℕ) → times k (keysOf seen) ≡ times k (keysOf before)) → Once row (keysOf before) →
+      Ends (λ _. Once row (keysOf all)) (RowFault row all) (once row seen ys)
+  unfolding once times
+  once-ends all seen before [] e s o = gives (let p = e ∙ append-nil before in rw p o)
+  once-ends all seen before (y ∷ ys) e s o =
+      go (named row (y .is)) (repeats (y .is)) (occurs (y .is) seen) refl refl refl λ h.
+      once-ends all (y ∷ seen) (before ++ (y ∷ [])) ys (e ∙ sym (append-assoc before (y ∷ []) ys))
+      (λ k. ap (λ n. if (eqb (y .is) k) (1 + n) n) (s k) ∙ sym (times-last k before y))
+      (once-more before y o λ n r. sym (s (y .is)) ∙ absent (y .is) seen (h n r))
+    where
+      go : (a b c : Bool) → named row (y .is) ≡ a → repeats (y .is) ≡ b → occurs (y .is) seen ≡ c →
+          ((named row (y .is) ≡ true → repeats (y .is) ≡ false → occurs (y .is) seen ≡ false) → Ends (λ _. Once row (keysOf all)) (RowFault row all) (once row (y ∷ seen) ys)) →
+          Ends (λ _. Once row (keysOf all)) (RowFault row all) (check (not (a && (not b && c))) 12 (y .mark) >> once row (y ∷ seen) ys)
+      go true false true p q r f = stops (again before y ys e o p q (omega (arith, some (y .is) seen r, s (y .is))))
+      go true false false p q r f = f λ _ _. r
+      go true true c p q r f = f λ _ z. absurd (true≢false (sym q ∙ z))
+      go false b c p q r f = f λ z _. absurd (true≢false (sym z ∙ p))
+
+module _ (xs : List Item) where
+  absent-line : (l : Line) → Dec (Unmet (keysOf xs) l)
+  absent-line (must j) = go (occurs j xs) refl
+    where
+      go : (a : Bool) → occurs j xs ≡ a → Dec (times j (keysOf xs) ≡ 0)
+      go true p = no λ z. let h = some j xs p in omega arith
+      go false p = yes (absent j xs p)
+  absent-line (oneOf i j) = go (occurs i xs) (occurs j xs) refl refl
+    where
+      go : (a b : Bool) → occurs i xs ≡ a → occurs j xs ≡ b → Dec ((times i (keysOf xs) ≡ 0) × (times j (keysOf xs) ≡ 0))
+      go true b p q = no λ z. let h = some i xs p in omega arith
+      go false true p q = no λ z. let h = some j xs q in omega arith
+      go false false p q = yes (absent i xs p, absent j xs q)
+  absent-line (may j) = no λ z. z
+
+  doubled-line : (l : Line) → Dec (Doubled (keysOf xs) l)
+  doubled-line (must j) = no λ z. z
+  doubled-line (oneOf i j) = go (occurs i xs) (occurs j xs) refl refl
+    where
+      go : (a b : Bool) → occurs i xs ≡ a → occurs j xs ≡ b → Dec ((1 ≤ times i (keysOf xs)) × (1 ≤ times j (keysOf xs)))
+      go true true p q = yes (some i xs p, some j xs q)
+      go true false p q = no λ z. let h = absent j xs q in omega arith
+      go false b p q = no λ z. let h = absent i xs p in omega arith
+  doubled-line (may j) = no λ z. z
+
+-- the first of a list, or none
+find-first : {P : Line → Type 0} → ((l : Line) → Dec (P l)) → (ls : Row) → ((l : Line) × First P ls l) ⊎ Each (λ l. P l → ⊥) ls
+find-first d [] = inr none
+find-first {P} d (l ∷ ls) = go (d l) (find-first d ls)
+  where
+    go : Dec (P l) → ((m : Line) × First P ls m) ⊎ Each (λ l. P l → ⊥) ls → ((m : Line) × First P (l ∷ ls) m) ⊎ Each (λ l. P l → ⊥) (l ∷ ls)
+    go (yes p) r = inl (l, First.here p)
+    go (no n) (inl (m, f)) = inl (m, First.later n f)
+    go (no n) (inr e) = inr (more n e)
+
+-- the last item on a line, where one is
+find-last : (l : Line) (ys : List Item) → ((x : Item) × Last (λ y. onLine l (y .is) ≡ true) ys x) ⊎ Each (λ y. onLine l (y .is) ≡ true → ⊥) ys
+find-last l [] = inr none
+find-last l (y ∷ ys) = go (onLine l (y .is)) refl (find-last l ys)
+  where
+    go : (t : Bool) → onLine l (y .is) ≡ t → ((x : Item) × Last (λ y. onLine l (y .is) ≡ true) ys x) ⊎ Each (λ y. onLine l (y .is) ≡ true → ⊥) ys →
+        ((x : Item) × Last (λ y. onLine l (y .is) ≡ true) (y ∷ ys) x) ⊎ Each (λ y. onLine l (y .is) ≡ true → ⊥) (y ∷ ys)
+    go t p (inl (x, f)) = inl (x, Last.later f)
+    go true p (inr e) = inl (y, Last.here p e)
+    go false p (inr e) = inr (more (λ z. true≢false (sym z ∙ p)) e)
+
+first-holds : {A : Type 0} {P : A → Type 0} {xs : List A} {x : A} → First P xs x → P x
+first-holds (First.here p) = p
+first-holds (First.later n f) = first-holds f
+
+none-on : (i j : ℕ) {ys : List Item} → Each (λ y. onLine (oneOf i j) (y .is) ≡ true → ⊥) ys → times i (keysOf ys) ≡ 0
+unfolding times onLine
+none-on i j none = refl
+none-on i j (more {x = y} h e) = rw (or-false (eqb (y .is) i) (eqb (y .is) j) (other _ h) .0) (none-on i j e)
+
+module _ (row : Row) (xs : List Item) where
+  later-of : (l : Line) → Doubled (keysOf xs) l → (x : Item) × Last (λ y. onLine l (y .is) ≡ true) xs x
+  later-of (must j) h = absurd h
+  later-of (oneOf i j) h = ⊎-elim (λ r. r) (λ e. absurd (let z = none-on i j e in let k = h .0 in omega arith)) (find-last (oneOf i j) xs)
+  later-of (may j) h = absurd h
+
+  abbrev Outcome : Type 0
+  Outcome = ((n : ℕ) × (d : ℕ) × RowFault row xs n d) ⊎ (judge row xs ≡ accepted tt)
+
+  pub row-either : Outcome
+  unfolding judge times
+  row-either = go (once-ends row xs [] [] xs refl (λ k. refl) λ k _ _. omega arith)
+    where
+      lines : Once row (keysOf xs) → ((l : Line) × First (Unmet (keysOf xs)) row l) ⊎ Each (λ l. Unmet (keysOf xs) l → ⊥) row →
+          ((l : Line) × First (Doubled (keysOf xs)) row l) ⊎ Each (λ l. Doubled (keysOf xs) l → ⊥) row → Outcome
+      lines o (inl (l, f)) r = inl (13, asks l, missing o f)
+      lines o (inr e) (inl (l, f)) = let (x, y) = later-of l (first-holds f) in inl (14, x .mark, both o e f y)
+      lines o (inr e) (inr f) = inr (rw (once-passes row [] xs (λ k p q. omega (arith, o k p q)), present-passes xs e, single-passes xs f))
+
+      go : {a : Answer Unit} → Ends (λ _. Once row (keysOf xs)) (RowFault row xs) a → Outcome
+      go (gives o) = lines o (find-first (absent-line xs) row) (find-first (doubled-line xs) row)
+      go (stops {n} {d} f) = inl (n, d, f)
+
+  pub row-faulty : {n d : ℕ} → judge row xs ≡ refused n d → RowFault row xs n d
+  row-faulty {n} {d} e = go row-either
+    where
+      go : Outcome → RowFault row xs n d
+      go (inl (m, c, f)) =
+          let g = row-refuses f in
+          let p : m ≡ n = cc in
+          let q : c ≡ d = cc in
+          rw (p, q) at f
+      go (inr g) = let z : _≡_ {A = ℕ} 0 1 = cc in absurd (omega arith)
+
+  -- a row refuses with the run's fault, and with no other
+  pub row-exact : {n d : ℕ} → (judge row xs ≡ refused n d) ↔ RowFault row xs n d
+  row-exact = (row-faulty, row-refuses)

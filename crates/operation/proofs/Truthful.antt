@@ -1,0 +1,130 @@
+-- Demand 3 of ours: a component with newcomers that its row does not name is read as without them.
+use Prim.Native.Nat.{ℕ, zero, suc, _+_, _≤_}
+use mathlib.Core.Path.{_≡_, refl, ap, ap₂, _∙_}
+use mathlib.Core.Bool.{Bool, true, false, not}
+use mathlib.Core.List.{List, [], _∷_, map}
+use mathlib.Core.Logic.{inl, inr}
+use lib.ListN.{length}
+use lib.Dec.{eqb}
+use native.Mathlib.Omega.{arith}
+use Rattle.element.specs.Octets.{Octets, AreOctets, if}
+use Rattle.element.specs.Answer.{Answer, accepted, refused}
+use Rattle.component.specs.Layout.{Entry}
+use Rattle.component.specs.Grammar.{Parameter, Component, parametersOf, kindOf, identifierOf, specifierOf}
+use Rattle.component.specs.Faults.{LaidOut}
+use Rattle.component.specs.Shown.{Shows, Pairwise}
+use Rattle.component.specs.Standing.{standing}
+use Rattle.component.specs.Table.{idOf, tableWith}
+use Rattle.component.proofs.Complete.{complete-stands}
+use Rattle.operation.specs.Row.{Row, judge, pointed, named as names}
+use Rattle.operation.specs.Points.{Points, repeated, missing, neither, both}
+use Rattle.operation.specs.Reading.{itemOf}
+use Rattle.operation.specs.Demands.{RowFor, keyOf, tally, ReaderRefuses, tells, Joined, done, kept, newcomer, moved, newcomers, placeIn, Truthful, both-accepted, same-missing, same-parameter, Demand3}
+use Rattle.operation.specs.Model.{reader, Ours}
+use Rattle.operation.proofs.Marks.{points}
+use Rattle.operation.proofs.Untouched.{untouched}
+use Rattle.operation.proofs.Places.{placeAt}
+use Rattle.operation.proofs.Marked.{indexed, judged, inside, items, grown}
+use Rattle.operation.proofs.Keys.{fits-read}
+use Rattle.operation.proofs.RowFaults.{row-faulty}
+use Rattle.operation.proofs.Model.{demand1-ours, demand2-ours}
+use Rattle.operation.proofs.OnlyOne.{reader-refuses, reader-accepts, refused-so}
+
+same-place : (es : List Entry) (i : ℕ) → placeAt es i ≡ placeIn es i
+unfolding placeAt placeIn
+same-place [] i = refl
+same-place (e ∷ es) zero = refl
+same-place (e ∷ es) (suc i) = same-place es i
+
+-- ---- what the newcomers add
+one-more : (t : Bool) (a b n : ℕ) → a ≡ b + n → if t (1 + a) a ≡ if t (1 + b) b + n
+one-more true a b n h = omega arith
+one-more false a b n h = h
+
+module _ {row : Row} where
+  more-parameters : {ps qs : List Parameter} (j : Joined row ps qs) → length qs ≡ length ps + newcomers j
+  unfolding newcomers
+  more-parameters done = refl
+  more-parameters (kept p j) = omega (arith, more-parameters j)
+  more-parameters (newcomer p u j) = omega (arith, more-parameters j)
+
+  as-many-named : {ps qs : List Parameter} (j : Joined row ps qs) → tally (names row) (map keyOf qs) ≡ tally (names row) (map keyOf ps)
+  unfolding tally
+  as-many-named done = refl
+  as-many-named (kept p j) = rw (as-many-named j)
+  as-many-named (newcomer p u j) = rw u (as-many-named j)
+
+  more-others : {ps qs : List Parameter} (j : Joined row ps qs) → tally (λ k. not (names row k)) (map keyOf qs) ≡ tally (λ k. not (names row k)) (map keyOf ps) + newcomers j
+  unfolding tally newcomers
+  more-others done = refl
+  more-others (kept p j) = one-more (not (names row (keyOf p))) _ _ _ (more-others j)
+  more-others (newcomer p u j) = rw u (omega (arith, more-others j))
+
+module _ (given : ℕ) (t : List ℕ) (enough : 256 ≤ length t) {row : Row} where
+  -- a component that is laid out, and its row: what ours reads
+  module _ {c : Component} {s : Octets} (o : AreOctets s) (h : LaidOut c s) (e : RowFor (kindOf c) (specifierOf c given) row) where
+    shows : Pairwise (Shows s) (standing c) (parametersOf c)
+    shows = let (l, _, r) = complete-stands (h .laid) (h .within) (h .few) in rw (r .entries) at (r .outlines .shows)
+
+    all-right : judge row (map itemOf (standing c)) ≡ accepted tt → reader s given t ≡ record { answer = accepted (tells given c row); table = tableWith (standing c) t }
+    all-right j =
+        let (p, q) = reader-accepts s o given t (record { enough = enough; laid-out = h; has-row = e; fits = fits-read row shows .0 j }) in
+        ap₂ (λ a t. record { answer = a; table = t }) p q
+
+    not-right : {n d : ℕ} → judge row (map itemOf (standing c)) ≡ refused n d → reader s given t ≡ record { answer = refused n d; table = t }
+    not-right j =
+        let (p, q) = refused-so s o given t (reader-refuses s o given t (ReaderRefuses.misfit enough h e (row-faulty row _ j))) in
+        ap₂ (λ a t. record { answer = a; table = t }) p q
+
+  module _ {c d : Component} {s u : Octets} (o : AreOctets s) (b : AreOctets u) (h : LaidOut c s) (k : LaidOut d u)
+      (kind : kindOf d ≡ kindOf c) (id : identifierOf d ≡ identifierOf c) (specifier : specifierOf d given ≡ specifierOf c given)
+      (e : RowFor (kindOf c) (specifierOf c given) row) (j : Joined row (parametersOf c) (parametersOf d)) where
+    abbrev f : ℕ → ℕ
+    f = placeAt (standing c)
+
+    abbrev g : ℕ → ℕ
+    g i = placeAt (standing d) (moved j i)
+
+    its-row : RowFor (kindOf d) (specifierOf d given) row
+    its-row = rw (kind, specifier) e
+
+    older : judge row (map itemOf (standing c)) ≡ pointed f (judge row (indexed (parametersOf c)))
+    older = rw (items (shows o h e) .0) (judged row f (parametersOf c))
+
+    newer : judge row (map itemOf (standing d)) ≡ pointed g (judge row (indexed (parametersOf c)))
+    newer = rw (items (shows b k its-row) .0) (untouched row _ _ (grown (placeAt (standing d)) j) ∙ judged row g (parametersOf c))
+
+    told-more : tells given d row ≡ record {
+      kind = kindOf c;
+      id = idOf (identifierOf c);
+      specifier = specifierOf c given;
+      all = length (parametersOf c) + newcomers j;
+      named = tally (names row) (map keyOf (parametersOf c));
+      other = tally (λ k. not (names row k)) (map keyOf (parametersOf c)) + newcomers j;
+    }
+    told-more = rw (specifier, kind, id, more-parameters j, as-many-named j, more-others j)
+
+    refused-both : (n i : ℕ) → judge row (indexed (parametersOf c)) ≡ refused n i → Points row (indexed (parametersOf c)) n i →
+        Truthful c d j t (record { answer = refused n (if (eqb n 13) i (f i)); table = t }) (record { answer = refused n (if (eqb n 13) i (g i)); table = t })
+    refused-both n i q (repeated x m _ _ _) = rw (same-place (standing c) (x .mark), same-place (standing d) (moved j (x .mark))) (same-parameter 12 (x .mark) (inl refl) (inside (parametersOf c) m))
+    refused-both n i q (missing _ _ _) = same-missing _
+    refused-both n i q (neither _ _ _ _ _) = same-missing _
+    refused-both n i q (both _ _ _ _ _ x m _) = rw (same-place (standing c) (x .mark), same-place (standing d) (moved j (x .mark))) (same-parameter 14 (x .mark) (inr refl) (inside (parametersOf c) m))
+
+    verdict : (a : Answer Unit) → judge row (indexed (parametersOf c)) ≡ a → Truthful c d j t (reader s given t) (reader u given t)
+    unfolding pointed
+    verdict (accepted _) q =
+        let p = all-right o h e (older ∙ ap (pointed f) q) in
+        let r = all-right b k its-row (newer ∙ ap (pointed g) q) in
+        rw (p, r ∙ ap (λ x. record { answer = accepted x; table = tableWith (standing d) t }) told-more) (both-accepted (tells given c row))
+    verdict (refused n i) q =
+        let p = not-right o h e (older ∙ ap (pointed f) q) in
+        let r = not-right b k its-row (newer ∙ ap (pointed g) q) in
+        rw (p, r) (refused-both n i q (points row _ q))
+
+pub demand3-ours : Demand3 reader
+demand3-ours = record { truthful = λ given c d s u t o b enough h k kind id specifier e j. verdict given t enough o b h k kind id specifier e j _ refl }
+
+pub ours : Ours
+unfolding Ours
+ours = record { first = demand1-ours; second = demand2-ours; third = demand3-ours }

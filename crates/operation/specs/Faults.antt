@@ -1,0 +1,51 @@
+-- The faults of a run of parameters against a row, in the book's words: over any row, and any marks to point by.
+use Prim.Native.Nat.{ℕ, _≤_}
+use mathlib.Core.Path.{_≡_}
+use mathlib.Core.Bool.{true, false}
+use mathlib.Core.List.{List, _∷_, _++_, map}
+use Rattle.operation.specs.Row.{Row, Line, must, oneOf, may, Item, numberOf, onLine, named, repeats}
+use Rattle.operation.specs.Book.{times, Each}
+
+abbrev pub keysOf : List Item → List ℕ
+keysOf = map λ x. x .is
+
+-- ---- the first and the last of a list of which `P` holds
+pub data First {A : Type 0} (P : A → Type 0) : List A → A → Type 0 where
+  here : {x : A} {xs : List A} → P x → First P (x ∷ xs) x
+  later : {x y : A} {xs : List A} → (P y → ⊥) → First P xs x → First P (y ∷ xs) x
+
+pub data Last {A : Type 0} (P : A → Type 0) : List A → A → Type 0 where
+  here : {x : A} {xs : List A} → P x → Each (λ y. P y → ⊥) xs → Last P (x ∷ xs) x
+  later : {x y : A} {xs : List A} → Last P xs x → Last P (y ∷ xs) x
+
+-- ---- what a row asks of the keys of a run
+-- what it names and may occur once does
+abbrev pub Once : Row → List ℕ → Type 0
+Once row ks = (k : ℕ) → named row k ≡ true → repeats k ≡ false → times k ks ≤ 1
+
+-- nothing meets the line, which asks for this number
+abbrev pub Unmet : List ℕ → Line → Type 0
+Unmet ks (must j) = times j ks ≡ 0
+Unmet ks (oneOf i j) = (times i ks ≡ 0) × (times j ks ≡ 0)
+Unmet ks (may j) = ⊥
+
+abbrev pub asks : Line → ℕ
+asks (must j) = numberOf j
+asks (oneOf i j) = numberOf i
+asks (may j) = numberOf j
+
+-- both members of a choice occur
+abbrev pub Doubled : List ℕ → Line → Type 0
+Doubled ks (must j) = ⊥
+Doubled ks (oneOf i j) = (1 ≤ times i ks) × (1 ≤ times j ks)
+Doubled ks (may j) = ⊥
+
+pub data RowFault (row : Row) (xs : List Item) : (number detail : ℕ) → Type 0 where
+  -- 12: the earliest second; what stands before it has none
+  again : (before : List Item) (x : Item) (behind : List Item) → xs ≡ before ++ (x ∷ behind) → Once row (keysOf before)
+      → named row (x .is) ≡ true → repeats (x .is) ≡ false → 1 ≤ times (x .is) (keysOf before) → RowFault row xs 12 (x .mark)
+  -- 13: no second, and the first line in row order that nothing meets
+  missing : {l : Line} → Once row (keysOf xs) → First (Unmet (keysOf xs)) row l → RowFault row xs 13 (asks l)
+  -- 14: neither, and of a choice with both members the later
+  both : {l : Line} {x : Item} → Once row (keysOf xs) → Each (λ l. Unmet (keysOf xs) l → ⊥) row → First (Doubled (keysOf xs)) row l
+      → Last (λ y. onLine l (y .is) ≡ true) xs x → RowFault row xs 14 (x .mark)

@@ -1,0 +1,30 @@
+-- Our reader and our writer, as a caller sees them, and that there is no other.
+use mathlib.Core.Path.{_≡_}
+use mathlib.Core.List.{List}
+use Prim.Native.Nat.{ℕ}
+use lib.ListN.{length}
+use Rattle.element.specs.Octets.{Octets, AreOctets}
+use Rattle.element.specs.Answer.{Answer}
+use Rattle.component.specs.Composing.{written, outputAfter}
+use Rattle.operation.specs.Reading.{reading, tableAfter}
+use Rattle.operation.specs.Writing.{writing}
+use Rattle.operation.specs.Told.{told}
+use Rattle.operation.specs.Demands.{Reader, Order, Writer, Demands}
+
+abbrev pub reader : Reader
+reader s given t = record { answer = told (reading s given (length t)); table = tableAfter t (reading s given (length t)) }
+
+abbrev pub written-as : Order → (room : ℕ) → Answer Octets
+written-as o room = writing (o .kind) (o .id) (o .specifier) (o .count) (o .table) (o .source) room
+
+abbrev pub writer : Writer
+writer o out = record { answer = written (written-as o (length out)); output = outputAfter out (written-as o (length out)) }
+
+-- ours satisfies the demands
+unfoldable pub Ours : Type 0
+Ours = Demands reader writer
+
+-- and whatever satisfies them gives, for all inputs, the same answer and the same lent buffers
+unfoldable pub OnlyOne : Type 0
+OnlyOne = (r : Reader) (w : Writer) → Demands r w →
+    ((s : Octets) (given : ℕ) (t : List ℕ) → AreOctets s → r s given t ≡ reader s given t) × ((o : Order) (out : Octets) → w o out ≡ writer o out)
