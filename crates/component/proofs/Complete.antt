@@ -15,7 +15,8 @@ use Rattle.element.specs.Length.{short, shortest}
 use Rattle.element.specs.Identifier.{IdentifierField, identifier}
 use Rattle.element.proofs.LengthLaws as L
 use Rattle.element.proofs.IdentifierLaws as I
-use Rattle.component.specs.Layout.{Span, contents, spanOf, wanted, setAt, operation, invoke, result, Head, headOf, Entry, next, parameter, parameterAt, parameters, Layout, layoutOf}
+use Rattle.component.specs.Layout.{Span, contents, spanOf, wanted, setAt, operation, invoke, result, Head, headOf, parameter, parameterAt, parameters, Layout, layoutOf}
+use Rattle.component.specs.Table.{Entry, next}
 use Rattle.component.specs.Grammar.{Parameter, Element, laid, Parameters, Component, Invoke, Laid, invoked, answered, parametersOf, kindOf, identifierOf, specifierOf}
 use Rattle.component.specs.Grammar as G
 use Rattle.component.specs.Shown.{Shows, Pairwise, Outlines, specifierIn}

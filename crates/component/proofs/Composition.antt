@@ -1,5 +1,5 @@
 -- How many octets are composed, and a component as its head and its parameters.
-use Prim.Native.Nat.{ℕ, _+_, _<_, _≤_}
+use Prim.Native.Nat.{ℕ, _+_, _≤_}
 use mathlib.Core.Path.{_≡_, refl, ap, _∙_}
 use mathlib.Core.Bool.{Bool, true, false, _||_}
 use mathlib.Core.Logic.{_⊎_, inl, inr, ⊎-elim}
@@ -14,7 +14,9 @@ use Rattle.element.specs.Length.{shortest, fieldSize}
 use Rattle.component.specs.declared.Id as D
 use Rattle.component.specs.Grammar.{Parameter}
 use Rattle.component.specs.Composed.{element, setOf, composed}
-use Rattle.component.specs.Composing.{elementSize, setSize, bodySize, octetsNeeded, idFits, idOctets, componentOf}
+use Rattle.component.specs.Needed.{elementSize, setSize, bodySize, octetsNeeded}
+use Rattle.component.specs.Composing.{idFits}
+use Rattle.component.specs.Table.{idOctets, componentOf}
 use Rattle.component.specs.Emitting.{operationOctets, headOctets}
 use Rattle.component.proofs.Putting.{part-length}
 use Rattle.component.proofs.Sizes.{element-length, same-set}

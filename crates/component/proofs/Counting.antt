@@ -11,8 +11,10 @@ use Rattle.element.specs.Octets.{Octets}
 use Rattle.element.specs.Answer.{Answer, accepted, refused, _>>=_}
 use Rattle.element.specs.Identifier.{identifierSize}
 use Rattle.component.specs.Grammar.{Parameter}
-use Rattle.component.specs.Table.{fits}
-use Rattle.component.specs.Composing.{entryOf, entryStands, entriesFrom, elementSize, setSize}
+use Rattle.component.specs.Part.{fits}
+use Rattle.component.specs.Table.{entryOf}
+use Rattle.component.specs.Composing.{entryStands, entriesFrom}
+use Rattle.component.specs.Needed.{elementSize, setSize}
 use Rattle.component.specs.Emitting.{sized}
 use Rattle.component.proofs.Putting.{part-length}
 

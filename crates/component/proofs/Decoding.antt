@@ -7,8 +7,8 @@ use lib.Seq.{take-append-seam, drop-append-seam}
 use native.Mathlib.Omega.{arith}
 use Rattle.element.specs.declared.Identifier.the-variants as IV
 use Rattle.element.specs.Octets.{Octets}
-use Rattle.element.specs.Length.{lengthAt}
-use Rattle.element.specs.Identifier.{IdentifierField, identifierAt}
+use Rattle.element.specs.Decoded.{lengthAt, identifierAt}
+use Rattle.element.specs.Identifier.{IdentifierField}
 use Rattle.element.proofs.LengthLaws as L
 use Rattle.element.proofs.IdentifierLaws as I
 use Rattle.component.specs.Grammar.{Parameter, Element, laid, Parameters, none, more, Component, Laid, invoked, answered}

@@ -11,8 +11,9 @@ use Rattle.element.specs.Answer.{accepted}
 use Rattle.element.specs.Identifier.{identifier}
 use Rattle.component.specs.Grammar.{Parameter}
 use Rattle.component.specs.Composed.{element, setOf}
-use Rattle.component.specs.Composing.{entryOf, entryStands, entriesFrom}
-use Rattle.component.specs.Emitting.{Put, AllStand, entries}
+use Rattle.component.specs.Table.{parametersFrom, entryOf}
+use Rattle.component.specs.Composing.{entryStands, entriesFrom}
+use Rattle.component.specs.Emitting.{Put, AllStand}
 use Rattle.component.proofs.Putting.{Left, goes-on}
 use Rattle.component.proofs.Taken.{taken, passed}
 
@@ -26,8 +27,8 @@ module _ (t : List ℕ) (source : Octets) where
       let (qs, x, y) = taken (entriesFrom (i + 1) n t source) a in
       (s, (qs, x, cc))
 
-  pub listed : (i n : ℕ) {ps : List Parameter} → entriesFrom i n t source ≡ accepted ps → ps ≡ entries i n t source
-  unfolding entries entriesFrom
+  pub listed : (i n : ℕ) {ps : List Parameter} → entriesFrom i n t source ≡ accepted ps → ps ≡ parametersFrom i n t source
+  unfolding parametersFrom entriesFrom
   listed i zero e = cc
   listed i (suc n) e = let (s, (qs, x, y)) = first i n e in y ∙ ap (λ rs. entryOf t source i ∷ rs) (listed (i + 1) n x)
 
@@ -44,21 +45,21 @@ module _ (t : List ℕ) (source : Octets) where
 
 -- the octets of the parameters from entry `i` on
 unfoldable pub rest : (count : ℕ) (table : List ℕ) (source : Octets) (i : ℕ) → Octets
-rest count t source i = setOf (entries i (count - i) t source)
+rest count t source i = setOf (parametersFrom i (count - i) t source)
 
 module _ (count : ℕ) (t : List ℕ) (source : Octets) where
-  pub rest-all : setOf (entries 0 count t source) ≡ rest count t source 0
+  pub rest-all : setOf (parametersFrom 0 count t source) ≡ rest count t source 0
   unfolding rest
   rest-all = rw sub-zero refl
 
   pub rest-none : (i : ℕ) → count ≤ i → rest count t source i ≡ []
-  unfolding rest entries setOf
+  unfolding rest parametersFrom setOf
   rest-none i h = let e : count - i ≡ 0 = omega arith in rw e refl
 
   module _ (i : ℕ) (h : i < count) {start size : ℕ} (e : start ≡ getD t (4 * i + 2) 0) (f : size ≡ getD t (4 * i + 3) 0) where
     rest-more : rest count t source i
         ≡ element (identifier (getD t (4 * i) 0) (getD t (4 * i + 1) 0)) (take size (drop start source)) ++ rest count t source (i + 1)
-    unfolding rest entries entryOf setOf
+    unfolding rest parametersFrom entryOf setOf
     rest-more = let r : count - i ≡ suc (count - (i + 1)) = omega arith in rw (r, e, f) refl
 
     module _ {all : Octets} {at : ℕ} {out : Octets} {next : ℕ} {mid : Octets} (l : Left all at out (rest count t source i) next mid) where

@@ -10,12 +10,12 @@ use native.Mathlib.Nat.{add-zero}
 use native.Mathlib.Omega.{arith}
 use Rattle.element.specs.Octets.{Octets}
 use Rattle.element.specs.Answer.{accepted}
-use Rattle.component.specs.Layout.{Entry}
+use Rattle.component.specs.Table.{Entry, numbers, tableWith, entryOf}
 use Rattle.component.specs.Grammar.{Parameter}
 use Rattle.component.specs.Shown.{Shows, Pairwise, none, more}
 use Rattle.component.specs.Composable.{Identified}
-use Rattle.component.specs.Table.{numbers, tableWith, fits}
-use Rattle.component.specs.Composing.{entryOf, entryStands, entriesFrom}
+use Rattle.component.specs.Part.{fits}
+use Rattle.component.specs.Composing.{entryStands, entriesFrom}
 use Rattle.component.proofs.Taken.{taken, passed}
 use Rattle.component.proofs.Laying.{numbers-length}
 

@@ -13,12 +13,14 @@ use Rattle.element.specs.declared.Identifier as I
 use Rattle.element.specs.declared.Identifier.the-variants as IV
 use Rattle.element.specs.Octets.{Octets, AreOctets, between}
 use Rattle.element.specs.Answer.{Answer, refused}
-use Rattle.element.specs.Length.{LengthField, lengthAt}
-use Rattle.element.specs.Identifier.{IdentifierField, identifierAt}
+use Rattle.element.specs.Length.{LengthField}
+use Rattle.element.specs.Decoded.{lengthAt, identifierAt}
+use Rattle.element.specs.Identifier.{IdentifierField}
 use Rattle.element.proofs.LengthLaws as Length
 use Rattle.element.proofs.IdentifierLaws as Identifier
 use Rattle.element.proofs.Reading.{most, same}
-use Rattle.component.specs.Layout.{Span, sizeOf, contents, spanOf, wanted, setAt, Head, operation, invoke, result, headOf, Entry, next, parameter, parameterAt, parameters, layoutOf}
+use Rattle.component.specs.Layout.{Span, sizeOf, contents, spanOf, wanted, setAt, Head, operation, invoke, result, headOf, parameter, parameterAt, parameters, layoutOf}
+use Rattle.component.specs.Table.{Entry, next}
 use Rattle.component.specs.Grammar.{Element}
 use Rattle.component.specs.Faults.{NoField, NoIdentifier, Unheld, no-field, overrun, Unfound, ended, other, LeftOver, left, InSet, NoSet, NoOperation, Allowed, NoBody, Whole, Faulty}
 use Rattle.component.proofs.Parts.{length-between, octets-between, take-between, single}

@@ -6,7 +6,7 @@ use mathlib.Core.List.{[]}
 use lib.ListN.{length, take, drop}
 use borrow.Author.Tests.{le-leb, lt-leb}
 use Rattle.element.specs.Octets.{Octets}
-use Rattle.component.specs.Table.{fits, partOf}
+use Rattle.component.specs.Part.{fits, partOf}
 
 module _ (s : Octets) (start size : ℕ) where
   pub within : start + size ≤ length s → true ≡ fits s start size

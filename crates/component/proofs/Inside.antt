@@ -9,11 +9,13 @@ use Rattle.element.specs.declared.Identifier as I
 use Rattle.element.specs.declared.Identifier.the-variants as IV
 use Rattle.element.specs.Octets.{Octets, AreOctets, between}
 use Rattle.element.specs.Answer.{accepted}
-use Rattle.element.specs.Length.{LengthField, lengthAt}
-use Rattle.element.specs.Identifier.{IdentifierField, identifierAt}
+use Rattle.element.specs.Length.{LengthField}
+use Rattle.element.specs.Decoded.{lengthAt, identifierAt}
+use Rattle.element.specs.Identifier.{IdentifierField}
 use Rattle.element.proofs.LengthLaws as Length
 use Rattle.element.proofs.IdentifierLaws as Identifier
-use Rattle.component.specs.Layout.{Span, sizeOf, contents, spanOf, wanted, setAt, Entry, next, parameterAt, parameter}
+use Rattle.component.specs.Layout.{Span, sizeOf, contents, spanOf, wanted, setAt, parameterAt, parameter}
+use Rattle.component.specs.Table.{Entry, next}
 use Rattle.component.proofs.Parts.{octets-between, take-between}
 use Rattle.component.proofs.Ends.{Ends, gives, stops, given, so, then, below, at-most, equal}
 

@@ -9,8 +9,9 @@ use native.Mathlib.Omega.{arith}
 use Rattle.element.specs.Octets.{Octets, AreOctets}
 use Rattle.element.specs.Answer.{Answer, accepted, refused, _>>=_}
 use Rattle.component.specs.declared.Heading as G
-use Rattle.component.specs.Layout.{Entry, Head, Layout, headOf, parameters, layoutOf}
-use Rattle.component.specs.Table.{headingOf, headed, headingsOf, Outline, outline, outlineOf, counted, tableWith, numbers, walked, behind, sheetAfter, filled, tableAfter, copied}
+use Rattle.component.specs.Table.{Entry, tableWith, numbers}
+use Rattle.component.specs.Layout.{Head, Layout, headOf, parameters, layoutOf}
+use Rattle.component.specs.Outline.{headingOf, headed, headingsOf, Outline, outline, outlineOf, counted, walked, behind, sheetAfter, filled, tableAfter, copied}
 use Rattle.component.proofs.Ends.{given}
 use Rattle.component.proofs.Opening.{head-ends}
 use Rattle.component.proofs.Walk.{parameters-ends, walked-all}

@@ -1,23 +1,23 @@
 -- What a writer is handed, as a component: what makes a given one again, and the one that is made.
 use Prim.Native.Nat.{ℕ, _*_, _≤_, _<_}
 use mathlib.Core.Path.{_≡_, refl, sym, _∙_}
-use mathlib.Core.Bool.{Bool, true, false, _||_}
+use mathlib.Core.Bool.{true, _||_}
 use mathlib.Core.List.{List, [], _∷_}
-use mathlib.Core.Logic.{_⊎_, inl, inr}
-use lib.ListN.{length, length-take}
+use mathlib.Core.Logic.{inl, inr}
+use lib.ListN.{length}
 use lib.Dec.{leb, eqb}
-use borrow.Author.Tests.{le-leb, leb-true, eq-eqb, eqb-true}
+use borrow.Author.Tests.{le-leb, eq-eqb}
 use native.Mathlib.Omega.{arith}
-use Rattle.element.specs.Octets.{Octets, if}
+use Rattle.element.specs.Octets.{Octets}
 use Rattle.element.specs.Answer.{accepted}
 use Rattle.component.specs.declared.Id as D
-use Rattle.component.specs.Layout.{Entry}
+use Rattle.component.specs.Table.{Entry, idOf, tableWith, idOctets, componentOf}
 use Rattle.component.specs.Grammar.{Parameter, Component, Invoke, Result, parametersOf, kindOf, identifierOf, specifierOf}
 use Rattle.component.specs.Shown.{Shows, Pairwise}
 use Rattle.component.specs.Composed.{composed}
 use Rattle.component.specs.Composable.{Composable, Typed, Identified}
-use Rattle.component.specs.Table.{idOf, tableWith}
-use Rattle.component.specs.Composing.{entriesFrom, octetsNeeded, idFits, idOctets, componentOf, entriesOf, octetsOf}
+use Rattle.component.specs.Composing.{entriesFrom, idFits, entriesOf, octetsOf}
+use Rattle.component.specs.Needed.{octetsNeeded}
 use Rattle.component.proofs.Taken.{passed}
 use Rattle.component.proofs.Composition.{Kinds, id-length}
 use Rattle.component.proofs.Measuring.{ready}

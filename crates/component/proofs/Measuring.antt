@@ -10,7 +10,8 @@ use Rattle.element.specs.Octets.{Octets}
 use Rattle.element.specs.Answer.{Answer, accepted, refused, _>>=_, _>>_, check}
 use Rattle.component.specs.declared.Id as D
 use Rattle.component.specs.Grammar.{Parameter}
-use Rattle.component.specs.Composing.{elementSize, setSize, bodySize, octetsNeeded, idFits, entriesFrom, entriesOf, Sizes, measured}
+use Rattle.component.specs.Needed.{elementSize, setSize, bodySize, octetsNeeded}
+use Rattle.component.specs.Composing.{idFits, entriesFrom, entriesOf, Sizes, measured}
 use Rattle.component.specs.Emitting.{sized, measuredOf}
 use Rattle.component.proofs.Taken.{taken, passed}
 use Rattle.component.proofs.Composition.{Kinds, kinds}

@@ -6,7 +6,8 @@ use lib.ListN.{length, getD}
 use native.Mathlib.Omega.{arith}
 use Rattle.element.specs.Octets.{Octets, AreOctets, between}
 use Rattle.element.proofs.Reading.{same}
-use Rattle.component.specs.Layout.{Span, sizeOf, wanted, setAt, Head, operation, invoke, result, headOf, Entry}
+use Rattle.component.specs.Layout.{Span, sizeOf, wanted, setAt, Head, operation, invoke, result, headOf}
+use Rattle.component.specs.Table.{Entry}
 use Rattle.component.specs.Grammar.{Parameter, Parameters, Element, Component, Laid, invoked, answered, parametersOf}
 use Rattle.component.specs.Shown.{Shows, Pairwise, Outlines, specifierIn}
 use Rattle.component.specs.Listed.{Listed}

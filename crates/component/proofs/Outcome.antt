@@ -1,33 +1,20 @@
 -- What is composed once the sizes are known: the outcome, and the octets that are put down.
 use Prim.Native.Nat.{ℕ, _+_, _*_, _<_, _≤_}
 use mathlib.Core.Path.{_≡_, refl, sym, ap, _∙_}
-use mathlib.Core.Bool.{Bool, true, false}
 use mathlib.Core.List.{List, _++_}
 use lib.ListN.{length, length-append}
-use lib.Dec.{leb, eqb}
-use borrow.Author.Tests.{le-leb, lt-leb, leb-true, eqb-true}
+use borrow.Author.Tests.{le-leb, lt-leb}
 use native.Mathlib.Omega.{arith}
 use native.Mathlib.Nat.{zero-add}
-use Rattle.element.specs.Octets.{Octets, if}
+use Rattle.element.specs.Octets.{Octets}
 use Rattle.element.specs.Answer.{Answer, accepted, refused, _>>=_}
 use Rattle.element.specs.Field.{put}
 use Rattle.component.specs.declared.Id as D
 use Rattle.component.specs.Composed.{setOf, composed}
-use Rattle.component.specs.Composing.{
-  setSize,
-  bodySize,
-  octetsNeeded,
-  idFits,
-  componentOf,
-  entriesOf,
-  Sizes,
-  measured,
-  octetsOf,
-  composing,
-  written,
-  outputAfter,
-}
-use Rattle.component.specs.Emitting.{Put, headOctets, AllStand, entries}
+use Rattle.component.specs.Needed.{setSize, bodySize, octetsNeeded}
+use Rattle.component.specs.Composing.{entriesOf, Sizes, measured, octetsOf, composing, written, outputAfter}
+use Rattle.component.specs.Table.{parametersFrom, componentOf}
+use Rattle.component.specs.Emitting.{Put, headOctets, AllStand}
 use Rattle.component.proofs.Putting.{then}
 use Rattle.component.proofs.Composition as composition
 use Rattle.component.proofs.Taken.{taken}
@@ -53,10 +40,10 @@ changed {s = s} {out = out} p e = rw e (ap accepted (p .place ∙ zero-add (leng
 module _ (kind : ℕ) (id : D.Id) (count : ℕ) (t : List ℕ) (source : Octets) where
   -- what the sizes say of the entries
   pub record Found (whole set : ℕ) : Type 0 where
-    pub is : entriesOf kind id count t source ≡ accepted (entries 0 count t source)
-    pub ready : Ready kind id count t source (entries 0 count t source)
-    pub whole-is : whole ≡ octetsNeeded kind (id .count) (entries 0 count t source)
-    pub set-is : set ≡ setSize (entries 0 count t source)
+    pub is : entriesOf kind id count t source ≡ accepted (parametersFrom 0 count t source)
+    pub ready : Ready kind id count t source (parametersFrom 0 count t source)
+    pub whole-is : whole ≡ octetsNeeded kind (id .count) (parametersFrom 0 count t source)
+    pub set-is : set ≡ setSize (parametersFrom 0 count t source)
 
   pub found : {whole set : ℕ} → accepted (record { whole = whole; set = set }) ≡ measured kind id count t source → Found whole set
   unfolding measured
@@ -83,7 +70,7 @@ module _ (kind : ℕ) (id : D.Id) (count : ℕ) (t : List ℕ) (source : Octets)
     short = rw (f .whole-is) (f .ready .short)
 
     pub short-set : set ≤ 4096
-    short-set = rw (f .set-is) (composition.short-set kind (id .count) (entries 0 count t source) (f .ready .short))
+    short-set = rw (f .set-is) (composition.short-set kind (id .count) (parametersFrom 0 count t source) (f .ready .short))
 
     module _ (specifier : ℕ) (out : Octets) where
       pub no-room : length out < whole → Outcome (composing kind id specifier count t source (length out)) out (refused 17 whole) out
@@ -91,27 +78,27 @@ module _ (kind : ℕ) (id : D.Id) (count : ℕ) (t : List ℕ) (source : Octets)
       no-room h = unchanged out (simp (f .is, ← f .whole-is, lt-leb whole (length out) h))
 
       module _ {body : ℕ} (b : body ≡ bodySize kind (id .count) set) where
-        octets : composed (componentOf kind id specifier (entries 0 count t source))
-            ≡ headOctets kind id specifier body set ++ setOf (entries 0 count t source)
-        octets = rw (b, f .set-is) (composition.parts kind id specifier (entries 0 count t source) (f .ready .allowed) (f .ready .short))
+        octets : composed (componentOf kind id specifier (parametersFrom 0 count t source))
+            ≡ headOctets kind id specifier body set ++ setOf (parametersFrom 0 count t source)
+        octets = rw (b, f .set-is) (composition.parts kind id specifier (parametersFrom 0 count t source) (f .ready .allowed) (f .ready .short))
 
-        lengths : length (headOctets kind id specifier body set) + length (setOf (entries 0 count t source)) ≡ whole
+        lengths : length (headOctets kind id specifier body set) + length (setOf (parametersFrom 0 count t source)) ≡ whole
         lengths =
-            sym (length-append (headOctets kind id specifier body set) (setOf (entries 0 count t source))) ∙ ap length (sym octets)
-            ∙ composition.whole kind id specifier (entries 0 count t source) (f .ready .allowed) (f .ready .short) ∙ sym (f .whole-is)
+            sym (length-append (headOctets kind id specifier body set) (setOf (parametersFrom 0 count t source))) ∙ ap length (sym octets)
+            ∙ composition.whole kind id specifier (parametersFrom 0 count t source) (f .ready .allowed) (f .ready .short) ∙ sym (f .whole-is)
 
         module _ (h : whole ≤ length out) where
           pub head-ready : (id .count ≤ 2) × (body < 65536) × (set < 65536) × (length (headOctets kind id specifier body set) ≤ length out)
           head-ready =
-              let s : bodySize kind (id .count) set ≤ 4096 = rw (f .set-is) (composition.short-body kind (id .count) (entries 0 count t source) (f .ready .short)) in
+              let s : bodySize kind (id .count) set ≤ 4096 = rw (f .set-is) (composition.short-body kind (id .count) (parametersFrom 0 count t source) (f .ready .short)) in
               (composition.two-at-most (f .ready .allowed), omega arith, omega (arith, short-set), omega (arith, lengths))
 
           module _ {next : ℕ} {mid : Octets} (p : Put (headOctets kind id specifier body set) 0 out next mid) where
             pub set-ready : length mid ≡ length out → (count ≤ 64) × (4 * count ≤ length t) × AllStand count t source
-                × (next + length (setOf (entries 0 count t source)) ≤ length mid)
+                × (next + length (setOf (parametersFrom 0 count t source)) ≤ length mid)
             set-ready e = (f .ready .few, f .ready .room, stand t source count (f .ready .entries), omega (arith, lengths, p .place))
 
-            pub all-put : {last : ℕ} {after : Octets} → Put (setOf (entries 0 count t source)) next mid last after →
+            pub all-put : {last : ℕ} {after : Octets} → Put (setOf (parametersFrom 0 count t source)) next mid last after →
                 Outcome (composing kind id specifier count t source (length out)) out (accepted last) after
             unfolding composing octetsOf
             all-put q = changed (rw (← octets) at (then p q (omega arith))) (simp (f .is, ← f .whole-is, le-leb whole (length out) h))

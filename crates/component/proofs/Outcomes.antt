@@ -10,7 +10,7 @@ use Rattle.component.specs.declared.Layout as Y
 use Rattle.component.specs.declared.Layout.the-variants as YV
 use Rattle.component.specs.declared.Measured as M
 use Rattle.component.specs.declared.Measured.the-variants as MV
-use Rattle.component.specs.Table.{Outline}
+use Rattle.component.specs.Outline.{Outline}
 use Rattle.component.specs.Composing.{Sizes}
 use Rattle.component.specs.Told.{countIn, outlineIn, measureIn}
 

@@ -10,7 +10,8 @@ use native.Mathlib.Numerals.{add-one}
 use Rattle.element.specs.declared.Written as W
 use Rattle.element.specs.Octets.{Octets}
 use Rattle.element.specs.Field.{put, written, outputAfter}
-use Rattle.element.specs.Identifier.{identifier, identifierWritten, identifierAfter}
+use Rattle.element.specs.Identifier.{identifier}
+use Rattle.element.specs.Encoded.{identifierWritten, identifierAfter}
 use Rattle.element.proofs.FieldLaws.{put-put, put-none, put-stores, roomy}
 use Rattle.component.specs.Emitting.{Put, sizeIn}
 

@@ -17,8 +17,8 @@ use Rattle.element.specs.declared.Identifier as I
 use Rattle.element.specs.declared.Identifier.the-variants as IV
 use Rattle.element.specs.Octets.{Octets, AreOctets, between}
 use Rattle.element.specs.Answer.{Answer, accepted, refused, _>>=_}
-use Rattle.element.specs.Length.{short, shortest, lengthAt}
-use Rattle.element.specs.Identifier.{identifierAt}
+use Rattle.element.specs.Length.{short, shortest}
+use Rattle.element.specs.Decoded.{lengthAt, identifierAt}
 use Rattle.element.proofs.LengthLaws as Length
 use Rattle.element.proofs.IdentifierLaws as Identifier
 use Rattle.component.specs.Layout.{Span, sizeOf, contents, spanOf, wanted, setAt, Head, operation, invoke, result, headOf, parameter, parameterAt, parameters, Layout, layoutOf}

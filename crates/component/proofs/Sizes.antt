@@ -5,13 +5,13 @@ use mathlib.Core.List.{List, [], _∷_, _++_}
 use lib.ListN.{length, length-append}
 use native.Mathlib.Omega.{arith}
 use Rattle.element.specs.Octets.{Octets}
-use Rattle.element.specs.Length.{shortest, fieldSize}
+use Rattle.element.specs.Length.{shortest}
 use Rattle.element.specs.Identifier.{identifier}
 use Rattle.element.proofs.LengthLaws as L
 use Rattle.element.proofs.IdentifierLaws as I
 use Rattle.component.specs.Grammar.{Parameter, Component, Invoke, Result, parametersOf, kindOf, identifierOf}
 use Rattle.component.specs.Composed.{element, setOf, composed}
-use Rattle.component.specs.Composing.{elementSize, setSize, bodySize, octetsNeeded}
+use Rattle.component.specs.Needed.{elementSize, setSize, bodySize, octetsNeeded}
 
 abbrev pub Same : (octets count : ℕ) → Type 0
 Same m n = min m n < 65536 → m ≡ n

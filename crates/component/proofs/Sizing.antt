@@ -8,8 +8,9 @@ use borrow.Author.Tests.{le-leb, lt-leb, eq-eqb, ne-eqb}
 use native.Mathlib.Omega.{arith}
 use Rattle.element.specs.Octets.{Octets}
 use Rattle.element.specs.Length.{fieldSize}
-use Rattle.component.specs.Table.{fits}
-use Rattle.component.specs.Composing.{elementSize, bodySize, entryStands}
+use Rattle.component.specs.Part.{fits}
+use Rattle.component.specs.Needed.{elementSize, bodySize}
+use Rattle.component.specs.Composing.{entryStands}
 
 pub element-size : (head body : ℕ) → head + fieldSize body + body ≡ elementSize head body
 unfolding elementSize

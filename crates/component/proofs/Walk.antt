@@ -9,11 +9,12 @@ use native.Mathlib.Omega.{arith}
 use Rattle.element.specs.Octets.{Octets, AreOctets, if, between}
 use Rattle.element.specs.Answer.{Answer, accepted, refused, _>>=_}
 use Rattle.element.proofs.Reading.{most}
-use Rattle.component.specs.Layout.{Entry, next, parameterAt, parameters}
+use Rattle.component.specs.Table.{Entry, next}
+use Rattle.component.specs.Layout.{parameterAt, parameters}
 use Rattle.component.specs.Grammar.{Parameter, Parameters}
 use Rattle.component.specs.Shown.{Shows, Pairwise, Contiguous}
 use Rattle.component.specs.Listed.{Listed}
-use Rattle.component.specs.Table.{walked, onward}
+use Rattle.component.specs.Outline.{walked, onward}
 use Rattle.component.proofs.Parts.{cut, empty}
 use Rattle.component.proofs.Ends.{Ends, gives, stops, given, then, at-most}
 use Rattle.component.proofs.Inside.{Read, read, Placed, placed, parameter-ends}

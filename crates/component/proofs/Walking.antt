@@ -11,8 +11,9 @@ use Rattle.element.specs.Octets.{Octets}
 use Rattle.element.specs.Answer.{Answer, accepted, refused, _>>=_}
 use Rattle.element.specs.Field.{put}
 use Rattle.element.proofs.FieldLaws.{put-put, put-none, put-stores}
-use Rattle.component.specs.Layout.{Entry, next, parameterAt, parameters}
-use Rattle.component.specs.Table.{numbers, tableWith, counted, onward, walked}
+use Rattle.component.specs.Table.{Entry, next, numbers, tableWith}
+use Rattle.component.specs.Layout.{parameterAt, parameters}
+use Rattle.component.specs.Outline.{counted, onward, walked}
 
 -- ---- what is left after `done` parameters
 unfoldable pub left : Octets → (end done at : ℕ) → Answer ℕ

@@ -2,25 +2,16 @@
 use Prim.Native.Nat.{ℕ, zero, suc, _+_, _*_}
 use mathlib.Core.Bool.{Bool, _&&_, _||_}
 use mathlib.Core.List.{List, [], _∷_, _++_}
-use lib.ListN.{length, getD, take, drop}
+use lib.ListN.{length, getD, drop}
 use lib.Dec.{leb, eqb}
 use Rattle.element.specs.Octets.{Octets, if}
 use Rattle.element.specs.Answer.{Answer, accepted, refused, _>>=_, _>>_, check}
-use Rattle.element.specs.Length.{fieldSize}
-use Rattle.element.specs.Identifier.{identifierSize}
 use Rattle.component.specs.declared.Id as D
-use Rattle.component.specs.Grammar.{Parameter, Component, Invoke, Result}
+use Rattle.component.specs.Grammar.{Parameter}
 use Rattle.component.specs.Composed.{composed}
-use Rattle.component.specs.Table.{fits}
-
--- ---- the entries of a table, whose contents stand in the source
-unfoldable pub entryOf : (table : List ℕ) (source : Octets) (i : ℕ) → Parameter
-entryOf t source i =
-    record {
-      number = getD t (4 * i) 0;
-      form = getD t (4 * i + 1) 0;
-      content = take (getD t (4 * i + 3) 0) (drop (getD t (4 * i + 2) 0) source);
-    }
+use Rattle.component.specs.Part.{fits}
+use Rattle.component.specs.Table.{entryOf, componentOf}
+use Rattle.component.specs.Needed.{setSize, octetsNeeded}
 
 unfoldable pub entryStands : (table : List ℕ) (source : Octets) (i : ℕ) → Bool
 entryStands t source i =
@@ -34,30 +25,9 @@ entriesFrom i (suc n) t source = do
   ps ← entriesFrom (i + 1) n t source
   accepted (entryOf t source i ∷ ps)
 
--- ---- how many octets they take; a length over 65,535 is counted as a field of four
-unfoldable pub elementSize : (head body : ℕ) → ℕ
-elementSize head body = head + fieldSize body + body
-
-unfoldable pub setSize : List Parameter → ℕ
-setSize [] = 0
-setSize (p ∷ ps) = elementSize (identifierSize (p .number)) (length (p .content)) + setSize ps
-
--- the contents of E9 or EA
-unfoldable pub bodySize : (kind id set : ℕ) → ℕ
-bodySize kind id set = elementSize 1 id + if (eqb kind 0xE9) 4 0 + elementSize 1 set
-
-unfoldable pub octetsNeeded : (kind id : ℕ) → List Parameter → ℕ
-octetsNeeded kind id ps = elementSize 1 (bodySize kind id (setSize ps))
-
 -- ---- the component
 unfoldable pub idFits : (kind count : ℕ) → Bool
 idFits kind count = if (eqb kind 0xE9) (leb count 2) (eqb count 1)
-
-unfoldable pub idOctets : D.Id → Octets
-idOctets id = take (id .count) (id .first ∷ id .second ∷ [])
-
-unfoldable pub componentOf : (kind : ℕ) (id : D.Id) (specifier : ℕ) → List Parameter → Component
-componentOf kind id specifier ps = if (eqb kind 0xE9) (Invoke (idOctets id) specifier ps) (Result (idOctets id) ps)
 
 -- the parameters that are to be written
 unfoldable pub entriesOf : (kind : ℕ) (id : D.Id) (count : ℕ) (table : List ℕ) (source : Octets) → Answer (List Parameter)

@@ -1,5 +1,5 @@
 -- What the private functions of the composing part say: the octets that each puts down, and the octets that each counts.
-use Prim.Native.Nat.{ℕ, zero, suc, _+_, _<_, _≤_}
+use Prim.Native.Nat.{ℕ, _+_, _<_, _≤_}
 use mathlib.Core.Path.{_≡_}
 use mathlib.Core.Bool.{true}
 use mathlib.Core.List.{List, [], _∷_, _++_}
@@ -16,7 +16,9 @@ use Rattle.component.specs.declared.Count as C
 use Rattle.component.specs.declared.Count.the-variants as CV
 use Rattle.component.specs.Grammar.{Parameter}
 use Rattle.component.specs.Composed.{element}
-use Rattle.component.specs.Composing.{entryOf, entryStands, elementSize, setSize, bodySize, idOctets, Sizes}
+use Rattle.component.specs.Table.{idOctets}
+use Rattle.component.specs.Composing.{entryStands, Sizes}
+use Rattle.component.specs.Needed.{elementSize, setSize, bodySize}
 
 -- ---- octets put down at a place of the output, and the place behind them
 pub record Put (field : Octets) (at : ℕ) (out : Octets) (next : ℕ) (after : Octets) : Type 0 where
@@ -39,10 +41,6 @@ headOctets kind id specifier body set =
 -- ---- the entries of a table, where all of them stand
 abbrev pub AllStand : (count : ℕ) (table : List ℕ) (source : Octets) → Type 0
 AllStand count t source = (i : ℕ) → i < count → entryStands t source i ≡ true
-
-unfoldable pub entries : (i count : ℕ) (table : List ℕ) (source : Octets) → List Parameter
-entries i zero t source = []
-entries i (suc n) t source = entryOf t source i ∷ entries (i + 1) n t source
 
 -- ---- how many octets they take
 unfoldable pub sized : Answer (List Parameter) → Answer ℕ

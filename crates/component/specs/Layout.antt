@@ -10,8 +10,8 @@ use Rattle.element.specs.declared.Identifier as I
 use Rattle.element.specs.declared.Identifier.the-variants as IV
 use Rattle.element.specs.Octets.{Octets, if, between}
 use Rattle.element.specs.Answer.{Answer, accepted, refused, _>>=_, _>>_, check}
-use Rattle.element.specs.Length.{lengthAt}
-use Rattle.element.specs.Identifier.{identifierAt}
+use Rattle.element.specs.Decoded.{lengthAt, identifierAt}
+use Rattle.component.specs.Table.{Entry, next}
 
 -- ---- one element
 pub record Span : Type 0 where
@@ -85,18 +85,6 @@ headOf s = do
   x ← contents s 0 1 (length s)
   check (eqb (x .end) (length s)) 5 (x .end)
   if (eqb (getD s 0 0) 0xE9) (invoke s x) (result s x)
-
--- ---- parameters
-pub record Entry : Type 0 where
-  pub number : ℕ
-  pub form : ℕ
-  pub place : ℕ
-  pub start : ℕ
-  pub size : ℕ
-
--- where the next one stands
-abbrev pub next : Entry → ℕ
-next e = e .start + e .size
 
 unfoldable pub parameter : Octets → (at end : ℕ) → I.Identifier → Answer Entry
 parameter s at end (IV.Is number form octets) = do

@@ -5,7 +5,8 @@ use mathlib.Core.List.{List, [], _∷_}
 use lib.ListN.{length, getD, take, drop}
 use lib.Dec.{eqb}
 use Rattle.element.specs.Octets.{Octets, if, between}
-use Rattle.component.specs.Layout.{Entry, Layout, next}
+use Rattle.component.specs.Table.{Entry, next}
+use Rattle.component.specs.Layout.{Layout}
 use Rattle.component.specs.Grammar.{Parameter, Component, parametersOf, kindOf, identifierOf, specifierOf}
 
 -- an entry shows a parameter: its number, its form, and its contents where they stand in the component

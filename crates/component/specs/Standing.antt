@@ -5,7 +5,7 @@ use mathlib.Core.List.{List, [], _∷_}
 use lib.ListN.{length}
 use Rattle.element.specs.Length.{shortest}
 use Rattle.element.specs.Identifier.{identifier}
-use Rattle.component.specs.Layout.{Entry, next}
+use Rattle.component.specs.Table.{Entry, next}
 use Rattle.component.specs.Grammar.{Parameter, Component, Invoke, Result, parametersOf}
 use Rattle.component.specs.Composed.{element, setOf, composed}
 

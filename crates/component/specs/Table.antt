@@ -1,14 +1,23 @@
--- What a reading shows: the entries in the lent table, the outline as the answer, and a part handed back.
-use Prim.Native.Nat.{ℕ, zero, suc, _+_}
-use mathlib.Core.Bool.{Bool}
+-- What the values that are handed in and out stand for: the entries of a table, four numbers for each parameter, and the ID octets.
+use Prim.Native.Nat.{ℕ, zero, suc, _+_, _*_}
 use mathlib.Core.List.{List, [], _∷_, _++_}
 use lib.ListN.{length, getD, take, drop}
-use lib.Dec.{leb, eqb}
-use Rattle.element.specs.Octets.{Octets, if, between}
-use Rattle.element.specs.Answer.{Answer, accepted, refused, _>>=_, _>>_, check}
+use lib.Dec.{eqb}
+use Rattle.element.specs.Octets.{Octets, if}
 use Rattle.component.specs.declared.Id as D
-use Rattle.component.specs.declared.Heading as G
-use Rattle.component.specs.Layout.{Entry, Head, Layout, next, parameterAt, headOf, layoutOf}
+use Rattle.component.specs.Grammar.{Parameter, Component, Invoke, Result}
+
+-- ---- parameters
+pub record Entry : Type 0 where
+  pub number : ℕ
+  pub form : ℕ
+  pub place : ℕ
+  pub start : ℕ
+  pub size : ℕ
+
+-- where the next one stands
+abbrev pub next : Entry → ℕ
+next e = e .start + e .size
 
 -- ---- the table: four numbers for each parameter, and what stands behind them stays
 unfoldable pub numbers : List Entry → List ℕ
@@ -18,80 +27,27 @@ numbers (e ∷ es) = e .number ∷ e .form ∷ e .start ∷ e .size ∷ numbers 
 unfoldable pub tableWith : List Entry → List ℕ → List ℕ
 tableWith es t = numbers es ++ drop (length (numbers es)) t
 
+-- ---- the entries of a table, whose contents stand in the source
+unfoldable pub entryOf : (table : List ℕ) (source : Octets) (i : ℕ) → Parameter
+entryOf t source i =
+    record {
+      number = getD t (4 * i) 0;
+      form = getD t (4 * i + 1) 0;
+      content = take (getD t (4 * i + 3) 0) (drop (getD t (4 * i + 2) 0) source);
+    }
+
+-- the parameters of `count` entries from `i` on
+unfoldable pub parametersFrom : (i count : ℕ) (table : List ℕ) (source : Octets) → List Parameter
+parametersFrom i zero t source = []
+parametersFrom i (suc n) t source = entryOf t source i ∷ parametersFrom (i + 1) n t source
+
 -- ---- the outline
 -- the octets of the component ID as a value: 0 where there is none
 unfoldable pub idOf : Octets → D.Id
 idOf octets = record { count = length octets; first = getD octets 0 0; second = getD octets 1 0 }
 
-unfoldable pub specifierAt : Octets → Head → ℕ
-specifierAt s h = if (eqb (h .kind) 0xE9) (getD s (h .operation) 0) 0
+unfoldable pub idOctets : D.Id → Octets
+idOctets id = take (id .count) (id .first ∷ id .second ∷ [])
 
-unfoldable pub headingOf : Octets → Head → G.Heading
-headingOf s h =
-    record {
-      kind = h .kind;
-      id = idOf (between (h .id .start) (h .id .end) s);
-      operation = h .operation;
-      specifier = specifierAt s h;
-      set = h .set .start;
-    }
-
-unfoldable pub headed : Octets → Answer Head → Answer G.Heading
-headed s a = do
-  h ← a
-  accepted (headingOf s h)
-
-unfoldable pub headingsOf : Octets → Answer G.Heading
-headingsOf s = headed s (headOf s)
-
-pub record Outline : Type 0 where
-  pub heading : G.Heading
-  pub count : ℕ
-
-abbrev pub outline : Octets → Layout → Outline
-outline s l = record { heading = headingOf s (l .head); count = length (l .entries) }
-
-unfoldable pub outlineOf : Octets → (room : ℕ) → Answer Outline
-outlineOf s room = do
-  check (leb 256 room) 1 0
-  l ← layoutOf s
-  accepted (outline s l)
-
--- how many parameters there are
-unfoldable pub counted : Answer (List Entry) → Answer ℕ
-counted a = a >>= λ es. accepted (length es)
-
--- a refusal leaves the table as it was
-unfoldable pub filled : List ℕ → Answer Layout → List ℕ
-filled t (accepted l) = tableWith (l .entries) t
-filled t (refused n d) = t
-
-unfoldable pub tableAfter : Octets → List ℕ → List ℕ
-tableAfter s t = if (leb 256 (length t)) (filled t (layoutOf s)) t
-
--- ---- the work sheet of a reading: the entries up to the end or to the first fault
-unfoldable pub onward : Answer Entry → (Entry → List Entry) → List Entry
-onward (accepted e) f = e ∷ f e
-onward (refused n d) f = []
-
-unfoldable pub walked : (room : ℕ) → Octets → (at end : ℕ) → List Entry
-walked zero s at end = []
-walked (suc room) s at end = if (leb end at) [] (onward (parameterAt s at end) (λ e. walked room s (next e) end))
-
-unfoldable pub behind : Octets → Answer Head → List Entry
-behind s (accepted h) = walked 64 s (h .set .start) (h .set .end)
-behind s (refused n d) = []
-
-unfoldable pub sheetAfter : Octets → List ℕ → List ℕ
-sheetAfter s t = if (leb 256 (length t)) (tableWith (behind s (headOf s)) t) t
-
--- ---- a part of the component: it fits when start plus size is at most the count of octets
-unfoldable pub fits : Octets → (start size : ℕ) → Bool
-fits s start size = leb (start + size) (length s)
-
-unfoldable pub partOf : Octets → (start size : ℕ) → Octets
-partOf s start size = if (fits s start size) (take size (drop start s)) []
-
--- the first `count` numbers of the one in place of the other's, where both have as many
-unfoldable pub copied : (from to : List ℕ) (count : ℕ) → List ℕ
-copied from to count = if (leb count (length from)) (if (leb count (length to)) (take count from ++ drop count to) to) to
+unfoldable pub componentOf : (kind : ℕ) (id : D.Id) (specifier : ℕ) → List Parameter → Component
+componentOf kind id specifier ps = if (eqb kind 0xE9) (Invoke (idOctets id) specifier ps) (Result (idOctets id) ps)

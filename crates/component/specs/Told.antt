@@ -14,8 +14,9 @@ use Rattle.component.specs.declared.Layout.the-variants as YV
 use Rattle.component.specs.declared.Heading as G
 use Rattle.component.specs.declared.Measured as M
 use Rattle.component.specs.declared.Measured.the-variants as MV
-use Rattle.component.specs.Layout.{Span, Entry}
-use Rattle.component.specs.Table.{Outline}
+use Rattle.component.specs.Layout.{Span}
+use Rattle.component.specs.Table.{Entry}
+use Rattle.component.specs.Outline.{Outline}
 use Rattle.component.specs.Composing.{Sizes}
 
 abbrev pub spanIn : S.Span → Answer Span

@@ -11,25 +11,15 @@ ghost use lib.ListN.{length, take, drop};
 ghost use Rattle.element.specs.Length.{shortest};
 ghost use Rattle.element.specs.Identifier.{identifier};
 ghost use Rattle.component.specs.Composed.{element, setOf};
-ghost use Rattle.component.specs.Composing.{
-  elementSize,
-  bodySize,
-  idFits,
-  idOctets,
-  entryStands,
-  entriesFrom,
-  measured,
-  composing,
-  written,
-  outputAfter,
-};
+ghost use Rattle.component.specs.Needed.{elementSize, bodySize};
+ghost use Rattle.component.specs.Composing.{idFits, entryStands, entriesFrom, measured, composing, written, outputAfter};
+ghost use Rattle.component.specs.Table.{idOctets, parametersFrom};
 ghost use Rattle.component.specs.Emitting.{
   Put,
   sizeIn,
   operationOctets,
   headOctets,
   AllStand,
-  entries,
   sized,
   measuredOf,
   atMost,
@@ -279,8 +269,8 @@ fn put_parameter(
 
 fn put_parameters(count: usize, table: &[u16], source: &[u8], out: &mut [u8], at: usize) -> usize
     requires { ⌜ (count ≤ 64) × (4 * count ≤ length (now table)) × AllStand count (now table) (now source)
-        × (at + length (setOf (entries 0 count (now table) (now source))) ≤ length (now out)) ⌝ }
-    ensures { λ r. ⌜ Put (setOf (entries 0 count (now (table .entry)) (now (source .entry)))) at
+        × (at + length (setOf (parametersFrom 0 count (now table) (now source))) ≤ length (now out)) ⌝ }
+    ensures { λ r. ⌜ Put (setOf (parametersFrom 0 count (now (table .entry)) (now (source .entry)))) at
         (now (out .entry)) r (now (out .exit)) ⌝ }
 {
     let mut i: usize = 0;

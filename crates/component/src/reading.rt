@@ -25,20 +25,9 @@ ghost use Rattle.component.specs.Layout.{
   parameterAt,
   parameters,
 };
-ghost use Rattle.component.specs.Table.{
-  idOf,
-  headed,
-  headingsOf,
-  outlineOf,
-  counted,
-  tableWith,
-  walked,
-  sheetAfter,
-  tableAfter,
-  fits,
-  partOf,
-  copied,
-};
+ghost use Rattle.component.specs.Table.{idOf, tableWith};
+ghost use Rattle.component.specs.Outline.{headed, headingsOf, outlineOf, counted, walked, sheetAfter, tableAfter, copied};
+ghost use Rattle.component.specs.Part.{fits, partOf};
 ghost use Rattle.component.specs.Told.{spanIn, entryIn, countIn, headingIn, outlineIn};
 
 // ---- one element

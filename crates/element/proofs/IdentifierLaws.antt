@@ -10,7 +10,8 @@ use native.Mathlib.Omega.{arith}
 use Rattle.element.specs.declared.Identifier as I
 use Rattle.element.specs.declared.Identifier.the-variants as IV
 use Rattle.element.specs.Octets.{Octets, AreOctets}
-use Rattle.element.specs.Identifier.{IdentifierField, only, identifier, identifierSize, identifierAt, numbered, within}
+use Rattle.element.specs.Identifier.{IdentifierField, only, identifier, identifierSize}
+use Rattle.element.specs.Decoded.{identifierAt, numbered, within}
 use Rattle.element.proofs.Reading.{less, most, same, first, first-two, first-three, Small, small as each-small}
 
 -- an identifier by its size, and back

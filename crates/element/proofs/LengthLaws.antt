@@ -10,7 +10,8 @@ use native.Mathlib.Omega.{arith}
 use Rattle.element.specs.declared.Length as L
 use Rattle.element.specs.declared.Length.the-variants as LV
 use Rattle.element.specs.Octets.{Octets, AreOctets}
-use Rattle.element.specs.Length.{LengthField, short, shortest, fieldSize, lengthAt}
+use Rattle.element.specs.Length.{LengthField, short, shortest, fieldSize}
+use Rattle.element.specs.Decoded.{lengthAt}
 use Rattle.element.proofs.Reading.{less, most, same, first, first-two, first-three, Small, small as each-small}
 
 -- a field by its size, and back

@@ -11,7 +11,7 @@ use native.Mathlib.Nat.{zero-mul, zero-add}
 use Rattle.element.specs.declared.Identifier as I
 use Rattle.element.specs.declared.Identifier.the-variants as IV
 use Rattle.element.specs.Octets.{Octets, if}
-use Rattle.element.specs.Identifier.{within, numbered}
+use Rattle.element.specs.Decoded.{within, numbered}
 
 -- what is left where `more` further octets may be taken, the next at `at`
 unfoldable pub left : (more : ℕ) (s : Octets) (form at number : ℕ) → I.Identifier

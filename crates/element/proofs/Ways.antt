@@ -12,8 +12,10 @@ use Rattle.element.specs.declared.Written as W
 use Rattle.element.specs.declared.Written.the-variants as WV
 use Rattle.element.specs.Octets.{Octets}
 use Rattle.element.specs.Field.{written, outputAfter}
-use Rattle.element.specs.Length.{shortest, lengthAt}
-use Rattle.element.specs.Identifier.{identifier, within, numbered, identifierAt, identifierWritten, identifierAfter}
+use Rattle.element.specs.Length.{shortest}
+use Rattle.element.specs.Decoded.{lengthAt, within, numbered, identifierAt}
+use Rattle.element.specs.Identifier.{identifier}
+use Rattle.element.specs.Encoded.{identifierWritten, identifierAfter}
 
 -- ---- the length field
 

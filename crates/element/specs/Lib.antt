@@ -1,5 +1,7 @@
 pub mod Octets
 pub mod Answer
-pub mod Field
 pub mod Length
 pub mod Identifier
+pub mod Field
+pub mod Decoded
+pub mod Encoded

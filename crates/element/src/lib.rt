@@ -5,14 +5,10 @@ ghost use mathlib.Core.List.{[], _∷_};
 ghost use Prim.Native.Nat.{_<_, _≤_};
 ghost use lib.ListN.{take};
 ghost use Rattle.element.specs.Field.{written, outputAfter};
-ghost use Rattle.element.specs.Length.{shortest, fieldSize, lengthAt};
-ghost use Rattle.element.specs.Identifier.{
-  identifierSize,
-  identifierAt,
-  numbered,
-  identifierWritten,
-  identifierAfter,
-};
+ghost use Rattle.element.specs.Length.{shortest, fieldSize};
+ghost use Rattle.element.specs.Decoded.{lengthAt, identifierAt, numbered};
+ghost use Rattle.element.specs.Identifier.{identifierSize};
+ghost use Rattle.element.specs.Encoded.{identifierWritten, identifierAfter};
 
 pub enum Length {
     // A value, and how many octets its field takes.

@@ -6,7 +6,7 @@ use lib.ListN.{length, drop}
 use lib.Dec.{leb}
 use Rattle.element.specs.Octets.{Octets, if}
 use Rattle.element.specs.Answer.{Answer, accepted, refused}
-use Rattle.operation.specs.Told.{Told}
+use Rattle.operation.specs.Caller.{Told}
 use Rattle.lines.specs.declared.Line as L
 use Rattle.lines.specs.declared.Line.the-variants as LV
 use Rattle.lines.specs.Decimal.{decimal}

@@ -1,29 +1,32 @@
 -- How much an accepted answer counts: a reading at most 64 parameters, each of them named or other; a writing at most 4,096 octets.
 use Prim.Native.Nat.{ℕ, _+_, _≤_}
 use mathlib.Core.Path.{_≡_, sym, ap}
-use mathlib.Core.Bool.{Bool, true, false}
 use mathlib.Core.List.{List, map}
 use lib.ListN.{length, length-map}
-use lib.Dec.{leb, eqb}
-use borrow.Author.Tests.{leb-true, eqb-true}
+use lib.Dec.{leb}
 use native.Mathlib.Omega.{arith}
-use Rattle.element.specs.Octets.{Octets, AreOctets, if}
+use Rattle.element.specs.Octets.{Octets, AreOctets}
 use Rattle.element.specs.Answer.{accepted}
 use Rattle.component.specs.declared.Id as D
 use Rattle.component.specs.Layout.{Layout, layoutOf}
 use Rattle.component.specs.Grammar.{Parameter}
 use Rattle.component.specs.Shown.{specifierIn}
-use Rattle.component.specs.Composing.{idFits, entriesOf, componentOf, octetsNeeded, octetsOf, written}
+use Rattle.component.specs.Composing.{entriesOf, octetsOf, written}
+use Rattle.component.specs.Table.{componentOf}
+use Rattle.component.specs.Needed.{octetsNeeded}
 use Rattle.component.specs.Composed.{composed}
 use Rattle.component.proofs.Laying.{few}
 use Rattle.component.proofs.Taken.{taken, passed}
 use Rattle.component.proofs.Measuring.{ready}
 use Rattle.component.proofs.Composition.{whole}
-use Rattle.operation.specs.Row.{Row, judge}
-use Rattle.operation.specs.Rows.{rowOf}
-use Rattle.operation.specs.Reading.{Shown, itemOf, reading}
-use Rattle.operation.specs.Told.{Told, told}
-use Rattle.operation.specs.Writing.{itemsOf, writing}
+use Rattle.operation.specs.Row.{Row}
+use Rattle.operation.specs.Judge.{judge}
+use Rattle.operation.specs.Finding.{rowOf}
+use Rattle.operation.specs.Reading.{Shown, reading}
+use Rattle.operation.specs.Items.{itemOf, itemsOf}
+use Rattle.operation.specs.Caller.{Told}
+use Rattle.operation.specs.Told.{told}
+use Rattle.operation.specs.Writing.{writing}
 use Rattle.operation.proofs.Readings.{shownBy}
 use Rattle.operation.proofs.Reached.{all-counted}
 

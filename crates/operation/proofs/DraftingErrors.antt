@@ -7,8 +7,9 @@ use native.Mathlib.Omega.{arith}
 use Rattle.element.specs.Octets.{Octets}
 use Rattle.component.specs.Layout.{Layout}
 use Rattle.component.specs.Shown.{specifierIn}
-use Rattle.operation.specs.Row.{Row, Item, key, judge}
-use Rattle.operation.specs.Reading.{itemOf}
+use Rattle.operation.specs.Row.{Row, Item, key}
+use Rattle.operation.specs.Judge.{judge}
+use Rattle.operation.specs.Items.{itemOf}
 use Rattle.operation.specs.Newcomers.{Grown}
 use Rattle.operation.proofs.Untouched.{untouched}
 

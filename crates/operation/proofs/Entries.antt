@@ -9,7 +9,8 @@ use native.Mathlib.Omega.{arith}
 use native.Mathlib.Nat.{sub-zero}
 use native.Mathlib.Numerals.{add-one}
 use Rattle.element.specs.Octets.{if}
-use Rattle.operation.specs.Row.{Line, Item, onLine, occurs, lastMark}
+use Rattle.operation.specs.Row.{Line, Item, onLine}
+use Rattle.operation.specs.Judge.{occurs, lastMark}
 use Rattle.operation.specs.Coded.{itemAt, itemsFrom}
 
 -- of `count` entries those from `at` on

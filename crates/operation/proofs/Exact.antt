@@ -6,7 +6,8 @@ use mathlib.Core.List.{List, map, List·Memᴰ, List·Memᴰ·head, List·Memᴰ
 use mathlib.Core.Logic.{_↔_}
 use native.Mathlib.Omega.{arith}
 use Rattle.element.specs.Answer.{Answer, accepted}
-use Rattle.operation.specs.Row.{Row, must, oneOf, Item, judge}
+use Rattle.operation.specs.Row.{Row, must, oneOf, Item}
+use Rattle.operation.specs.Judge.{judge}
 use Rattle.operation.specs.Book.{times, Kept, occurred, first, second, Each, more, Fits}
 use Rattle.operation.specs.Points.{keys, Points, repeated, missing, neither, both}
 use Rattle.operation.proofs.Judging.{View, fine, wrong, judged}

@@ -6,20 +6,27 @@ use lib.ListN.{getD, drop, replicate}
 use native.Mathlib.Omega.{arith}
 use Rattle.element.specs.Octets.{Octets, AreOctets}
 use Rattle.element.specs.Answer.{Answer, accepted, refused}
-use Rattle.element.specs.Length.{lengthAt, shortest, fieldSize}
-use Rattle.element.specs.Identifier.{within, numbered, identifierAt, identifier, identifierSize}
+use Rattle.element.specs.Decoded.{lengthAt, within, numbered, identifierAt}
+use Rattle.element.specs.Length.{shortest, fieldSize}
+use Rattle.element.specs.Identifier.{identifier, identifierSize}
 use Rattle.element.proofs.Reading.{small}
 use Rattle.component.specs.Layout.{spanOf, contents, wanted, setAt, operation, invoke, result, headOf, parameter, parameterAt, parameters, layoutOf}
 use Rattle.component.specs.Shown.{specifierIn}
-use Rattle.component.specs.Table.{numbers, tableWith, idOf, fits}
+use Rattle.component.specs.Table.{numbers, tableWith, idOf, entryOf, idOctets, componentOf}
+use Rattle.component.specs.Part.{fits}
 use Rattle.component.specs.Composed.{element, setOf, composed}
-use Rattle.component.specs.Composing.{entryOf, entryStands, entriesFrom, elementSize, setSize, bodySize, octetsNeeded, idFits, idOctets, componentOf, entriesOf, octetsOf, written, outputAfter}
-use Rattle.operation.specs.Row.{key, numberOf, onLine, named, repeats, occurs, lastMark, once, present, single, judge, countNamed}
-use Rattle.operation.specs.Rows.{operations, find, rowOf}
-use Rattle.operation.specs.Reading.{itemOf, countOther, reading, tableAfter}
-use Rattle.operation.specs.Writing.{itemsOf, writing}
-use Rattle.operation.specs.Told.{Told, told}
-use Rattle.operation.specs.Demands.{Reader, Order, Writer, Demands}
+use Rattle.component.specs.Composing.{entryStands, entriesFrom, idFits, entriesOf, octetsOf, written, outputAfter}
+use Rattle.component.specs.Needed.{elementSize, setSize, bodySize, octetsNeeded}
+use Rattle.operation.specs.Row.{key, numberOf, onLine, named, repeats}
+use Rattle.operation.specs.Judge.{occurs, lastMark, once, present, single, judge, countNamed}
+use Rattle.operation.specs.Rows.{operations}
+use Rattle.operation.specs.Finding.{find, rowOf}
+use Rattle.operation.specs.Items.{itemOf, itemsOf}
+use Rattle.operation.specs.Reading.{countOther, reading, tableAfter}
+use Rattle.operation.specs.Writing.{writing}
+use Rattle.operation.specs.Caller.{Told, Reader, Order, Writer}
+use Rattle.operation.specs.Told.{told}
+use Rattle.operation.specs.Demands.{Demands}
 use Rattle.operation.specs.Model.{reader, writer, OnlyOne}
 use Rattle.operation.proofs.OnlyOne.{only-one}
 

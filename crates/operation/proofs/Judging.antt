@@ -8,7 +8,8 @@ use borrow.Author.Tests.{eqb-true, le-leb, leb-true, leb-false}
 use native.Mathlib.Omega.{arith}
 use Rattle.element.specs.Octets.{if}
 use Rattle.element.specs.Answer.{Answer, accepted, refused, _>>_, check}
-use Rattle.operation.specs.Row.{Row, Line, must, oneOf, may, Item, named, repeats, occurs, once, present, single, judge}
+use Rattle.operation.specs.Row.{Row, Line, must, oneOf, may, Item, named, repeats}
+use Rattle.operation.specs.Judge.{occurs, once, present, single, judge}
 use Rattle.operation.specs.Book.{times, Kept, occurred, first, second, allowed, Each, none, more, Fits}
 use Rattle.operation.specs.Points.{keys, Points, repeated, missing, neither, both}
 use Rattle.operation.proofs.Lines.{or-false, and-true, self, last}

@@ -6,14 +6,15 @@ use mathlib.Core.List.{List, [], _∷_, map}
 use mathlib.Core.Logic.{_↔_}
 use Rattle.element.specs.Octets.{Octets, if}
 use Rattle.element.specs.Answer.{accepted}
-use Rattle.component.specs.Layout.{Entry}
+use Rattle.component.specs.Table.{Entry}
 use Rattle.component.specs.Grammar.{Parameter}
 use Rattle.component.specs.Shown.{Shows, Pairwise, none, more}
-use Rattle.operation.specs.Row.{Row, Item, named, judge, countNamed}
+use Rattle.operation.specs.Row.{Row, Item, named}
+use Rattle.operation.specs.Judge.{judge, countNamed}
 use Rattle.operation.specs.Book.{Fits}
 use Rattle.operation.specs.Points.{keys}
-use Rattle.operation.specs.Reading.{itemOf, countOther}
-use Rattle.operation.specs.Writing.{itemsOf}
+use Rattle.operation.specs.Items.{itemOf, itemsOf}
+use Rattle.operation.specs.Reading.{countOther}
 use Rattle.operation.specs.Demands.{keyOf, tally}
 use Rattle.operation.proofs.Exact.{exact}
 

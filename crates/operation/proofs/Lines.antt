@@ -6,7 +6,8 @@ use mathlib.Core.List.{List, [], _∷_, map, List·Memᴰ, List·Memᴰ·head, L
 use lib.Dec.{eqb}
 use borrow.Author.Tests.{eq-eqb, not-false}
 use Rattle.element.specs.Octets.{if}
-use Rattle.operation.specs.Row.{oneOf, Item, onLine, occurs, lastMark, remark}
+use Rattle.operation.specs.Row.{oneOf, Item, onLine}
+use Rattle.operation.specs.Judge.{occurs, lastMark, remark}
 
 pub or-false : (a b : Bool) → (a || b) ≡ false → (a ≡ false) × (b ≡ false)
 or-false true b e = (cc, cc)

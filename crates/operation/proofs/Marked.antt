@@ -6,12 +6,13 @@ use mathlib.Core.Option.{some}
 use lib.ListN.{length, getElem?}
 use native.Mathlib.Omega.{arith}
 use Rattle.element.specs.Octets.{Octets}
-use Rattle.component.specs.Layout.{Entry}
+use Rattle.component.specs.Table.{Entry}
 use Rattle.component.specs.Grammar.{Parameter}
 use Rattle.component.specs.Shown.{Shows, Pairwise, none, more}
-use Rattle.operation.specs.Row.{Row, Item, judge, countNamed, remark, pointed}
+use Rattle.operation.specs.Row.{Row, Item}
+use Rattle.operation.specs.Judge.{judge, countNamed, remark, pointed}
 use Rattle.operation.specs.Newcomers as N
-use Rattle.operation.specs.Reading.{itemOf}
+use Rattle.operation.specs.Items.{itemOf}
 use Rattle.operation.specs.Demands.{keyOf, Joined, done, kept, newcomer, moved}
 use Rattle.operation.proofs.Marks.{marked, count-marked}
 use Rattle.operation.proofs.Places.{placeAt}

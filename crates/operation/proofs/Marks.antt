@@ -7,7 +7,8 @@ use mathlib.Core.Logic.{_≢_}
 use lib.Dec.{eqb}
 use Rattle.element.specs.Octets.{if}
 use Rattle.element.specs.Answer.{Answer, accepted, refused, _>>_, check}
-use Rattle.operation.specs.Row.{numberOf, Row, Line, must, oneOf, may, Item, onLine, named, repeats, occurs, once, present, single, judge, countNamed, pointed, remark}
+use Rattle.operation.specs.Row.{numberOf, Row, Line, must, oneOf, may, Item, onLine, named, repeats}
+use Rattle.operation.specs.Judge.{occurs, once, present, single, judge, countNamed, pointed, remark}
 use Rattle.operation.specs.Points.{Points, repeated, missing, neither, both}
 use Rattle.operation.proofs.Lines.{last}
 use Rattle.operation.proofs.Judging.{View, fine, wrong, judged}

@@ -15,8 +15,8 @@ use Rattle.component.specs.Faults.{LaidOut, Typed, Allowed}
 use Rattle.component.specs.Shown.{specifierIn}
 use Rattle.component.specs.Standing.{standing}
 use Rattle.component.specs.Composed.{composed}
-use Rattle.component.specs.Table.{idOf, tableWith}
-use Rattle.component.specs.Composing.{entryOf, entryStands, entriesFrom, idOctets, written, outputAfter}
+use Rattle.component.specs.Table.{parametersFrom, idOf, tableWith, entryOf, idOctets}
+use Rattle.component.specs.Composing.{entryStands, entriesFrom, written, outputAfter}
 use Rattle.component.proofs.Ends.{Ends, gives, given as Ends·given, stopped, then, at-most}
 use Rattle.component.proofs.Asking.{answered}
 use Rattle.component.proofs.Taken.{taken, passed}
@@ -26,12 +26,15 @@ use Rattle.component.proofs.Entries.{as-many, table-shown}
 use Rattle.component.proofs.Sound.{sound}
 use Rattle.component.proofs.Complete.{Reads, complete-stands}
 use Rattle.component.proofs.Faulting.{faulty}
-use Rattle.operation.specs.Row.{Row, judge}
-use Rattle.operation.specs.Rows.{rowOf}
-use Rattle.operation.specs.Reading.{Shown, itemOf, reading}
-use Rattle.operation.specs.Writing.{itemsOf, writing}
-use Rattle.operation.specs.Told.{Told, told}
-use Rattle.operation.specs.Demands.{RowFor, Order, ReaderRefuses, Right, tells, EntryStands, parametersFrom, ordered, needed, made, Held, Ready, WriterRefuses, Writable, Demand1, Demand2}
+use Rattle.operation.specs.Row.{Row}
+use Rattle.operation.specs.Judge.{judge}
+use Rattle.operation.specs.Finding.{rowOf}
+use Rattle.operation.specs.Reading.{Shown, reading}
+use Rattle.operation.specs.Items.{itemOf, itemsOf}
+use Rattle.operation.specs.Writing.{writing}
+use Rattle.operation.specs.Caller.{Told, Order}
+use Rattle.operation.specs.Told.{told}
+use Rattle.operation.specs.Demands.{RowFor, ReaderRefuses, Right, tells, EntryStands, ordered, needed, made, Held, Ready, WriterRefuses, Writable, Demand1, Demand2}
 use Rattle.operation.specs.Model.{reader, writer, written-as}
 use Rattle.operation.proofs.Readings.{either-row, row-ends}
 use Rattle.operation.proofs.RowsFound.{has-row, its-row, has-none}

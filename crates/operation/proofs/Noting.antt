@@ -13,7 +13,8 @@ use native.Mathlib.Nat.{zero-add}
 use native.Mathlib.Numerals.{add-one}
 use Rattle.element.specs.Octets.{if}
 use Rattle.element.specs.Answer.{accepted}
-use Rattle.operation.specs.Row.{Row, Line, must, oneOf, may, Item, onLine, named, repeats, occurs, present, single}
+use Rattle.operation.specs.Row.{Row, Line, must, oneOf, may, Item, onLine, named, repeats}
+use Rattle.operation.specs.Judge.{occurs, present, single}
 use Rattle.operation.specs.Coded.{lineIn, rowIn, itemAt, itemsFrom}
 use Rattle.operation.specs.Noting.{lineOf, metBy, first, firstFrom, distinct, asked, Notes, Alone, Noted}
 use Rattle.operation.specs.declared.Repeat as R

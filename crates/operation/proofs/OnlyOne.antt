@@ -17,18 +17,22 @@ use Rattle.component.specs.Faults.{LaidOut, Typed, Allowed}
 use Rattle.component.specs.Shown.{specifierIn}
 use Rattle.component.specs.Standing.{standing, specifierPlace}
 use Rattle.component.specs.Composed.{composed}
-use Rattle.component.specs.Table.{tableWith, fits}
-use Rattle.component.specs.Composing.{entryStands, entriesFrom, entriesOf, idFits, octetsNeeded, octetsOf, written, outputAfter}
+use Rattle.component.specs.Table.{parametersFrom, tableWith}
+use Rattle.component.specs.Part.{fits}
+use Rattle.component.specs.Composing.{entryStands, entriesFrom, entriesOf, idFits, octetsOf, written, outputAfter}
+use Rattle.component.specs.Needed.{octetsNeeded}
 use Rattle.component.proofs.Complete.{Reads, complete-stands}
 use Rattle.component.proofs.Entries.{as-many}
 use Rattle.component.proofs.Refusing.{refuses}
 use Rattle.operation.specs.Row.{Row}
-use Rattle.operation.specs.Rows.{rowOf}
+use Rattle.operation.specs.Finding.{rowOf}
 use Rattle.operation.specs.Faults.{RowFault}
-use Rattle.operation.specs.Reading.{itemOf, reading, tableAfter}
+use Rattle.operation.specs.Items.{itemOf}
+use Rattle.operation.specs.Reading.{reading, tableAfter}
 use Rattle.operation.specs.Writing.{writing}
-use Rattle.operation.specs.Told.{Told, told}
-use Rattle.operation.specs.Demands.{Read, Reader, Order, Wrote, Writer, ReaderRefuses, Right, tells, EntryStands, parametersFrom, ordered, made, Held, Ready, WriterRefuses, Writable, Demand1, Demand2}
+use Rattle.operation.specs.Caller.{Told, Read, Reader, Order, Wrote, Writer}
+use Rattle.operation.specs.Told.{told}
+use Rattle.operation.specs.Demands.{ReaderRefuses, Right, tells, EntryStands, ordered, made, Held, Ready, WriterRefuses, Writable, Demand1, Demand2}
 use Rattle.operation.specs.Model.{reader, writer, written-as, OnlyOne}
 use Rattle.operation.proofs.Readings.{either-row, anywhere, reads, no-row}
 use Rattle.operation.proofs.RowsFound.{its-row, no-row-found}

@@ -7,7 +7,8 @@ use Rattle.operation.specs.declared.Reading as R
 use Rattle.operation.specs.declared.Reading.the-variants as RV
 use Rattle.operation.specs.declared.Writing as W
 use Rattle.operation.specs.declared.Writing.the-variants as WV
-use Rattle.operation.specs.Told.{Told, answerIn, writtenIn}
+use Rattle.operation.specs.Caller.{Told}
+use Rattle.operation.specs.Told.{answerIn, writtenIn}
 
 abbrev readingFor : Answer Told → R.Reading
 readingFor (accepted t) = RV.Accepted (t .kind) (t .id) (t .specifier) (t .all) (t .named) (t .other)

@@ -6,12 +6,12 @@ use lib.ListN.{length, getD, drop, length-append}
 use lib.Seq.{getD-append-add}
 use native.Mathlib.Nat.{add-zero, zero-add}
 use native.Mathlib.Omega.{arith}
-use Rattle.component.specs.Layout.{Entry, next}
+use Rattle.component.specs.Table.{Entry, next, numbers, tableWith}
 use Rattle.component.specs.Shown.{Contiguous, more}
-use Rattle.component.specs.Table.{numbers, tableWith}
-use Rattle.operation.specs.Row.{Item, key, remark}
+use Rattle.operation.specs.Row.{Item, key}
+use Rattle.operation.specs.Judge.{remark}
 use Rattle.operation.specs.Coded.{itemAt, itemsFrom}
-use Rattle.operation.specs.Reading.{itemOf}
+use Rattle.operation.specs.Items.{itemOf}
 use Rattle.operation.specs.Finishing.{placeFrom}
 
 -- the entries as a row sees them, marked by where they stand in the order, from `i` on

@@ -10,17 +10,20 @@ use native.Mathlib.Nat.{zero-add}
 use native.Mathlib.Omega.{arith}
 use Rattle.element.specs.Octets.{Octets, AreOctets, if}
 use Rattle.element.specs.Answer.{Answer, accepted, refused, _>>=_, _>>_}
-use Rattle.component.specs.Layout.{Entry, Layout, layoutOf}
+use Rattle.component.specs.Table.{Entry, tableWith}
+use Rattle.component.specs.Layout.{Layout, layoutOf}
 use Rattle.component.specs.Shown.{specifierIn}
-use Rattle.component.specs.Table.{headingOf, specifierAt, tableWith}
+use Rattle.component.specs.Outline.{headingOf, specifierAt}
 use Rattle.component.proofs.Laying.{few, copies}
 use Rattle.component.proofs.Sound.{in-order}
 use Rattle.operation.specs.declared.Judged as J
 use Rattle.operation.specs.declared.Judged.the-variants as JV
-use Rattle.operation.specs.Row.{Row, Item, named, judge, countNamed, pointed}
+use Rattle.operation.specs.Row.{Row, Item, named}
+use Rattle.operation.specs.Judge.{judge, countNamed, pointed}
 use Rattle.operation.specs.Points.{Points, repeated, missing, neither, both}
 use Rattle.operation.specs.Coded.{itemsFrom, judgement, verdict, judgedIn}
-use Rattle.operation.specs.Reading.{itemOf, countOther, reading, tableAfter}
+use Rattle.operation.specs.Items.{itemOf}
+use Rattle.operation.specs.Reading.{countOther, reading, tableAfter}
 use Rattle.operation.specs.Told.{told}
 use Rattle.operation.specs.Finishing.{specifierFor, Pointing, detailOf, finished, tableFinished}
 use Rattle.operation.proofs.Marks.{marked, count-marked, points}

@@ -10,7 +10,8 @@ use Rattle.element.specs.Answer.{accepted, refused}
 use Rattle.component.specs.declared.Heading as G
 use Rattle.component.specs.Layout.{Layout, layoutOf}
 use Rattle.component.specs.Shown.{specifierIn}
-use Rattle.component.specs.Table.{headingOf, Outline, outline, outlineOf, sheetAfter, tableWith}
+use Rattle.component.specs.Outline.{headingOf, Outline, outline, outlineOf, sheetAfter}
+use Rattle.component.specs.Table.{tableWith}
 use Rattle.component.proofs.Ends.{given as value}
 use Rattle.component.proofs.Opening.{head-ends}
 use Rattle.component.proofs.Laying.{parts, outlines, not-laid, few, sheet-shows}

@@ -13,9 +13,12 @@ use Rattle.component.specs.Layout.{Layout, layoutOf}
 use Rattle.component.specs.Shown.{specifierIn}
 use Rattle.component.proofs.Ends.{Ends, gives, stops}
 use Rattle.component.proofs.Taken.{taken, passed}
-use Rattle.operation.specs.Row.{Row, judge, countNamed}
-use Rattle.operation.specs.Rows.{Operation, operations, find, rowOf}
-use Rattle.operation.specs.Reading.{Shown, itemOf, countOther, reading}
+use Rattle.operation.specs.Row.{Row}
+use Rattle.operation.specs.Judge.{judge, countNamed}
+use Rattle.operation.specs.Rows.{Operation, operations}
+use Rattle.operation.specs.Finding.{find, rowOf}
+use Rattle.operation.specs.Reading.{Shown, countOther, reading}
+use Rattle.operation.specs.Items.{itemOf}
 
 -- a row is there, or 11 points wherever it is told to
 abbrev Either : (ℕ → Answer Row) → Type 0

@@ -10,7 +10,8 @@ use native.Mathlib.Omega.{arith}
 use Rattle.element.specs.Octets.{if}
 use Rattle.element.specs.Answer.{Answer, accepted, refused, _>>_, check}
 use Rattle.component.proofs.Ends.{Ends, gives, stops}
-use Rattle.operation.specs.Row.{Row, Line, must, oneOf, may, Item, onLine, named, repeats, occurs, lastMark, once, present, single, judge}
+use Rattle.operation.specs.Row.{Row, Line, must, oneOf, may, Item, onLine, named, repeats}
+use Rattle.operation.specs.Judge.{occurs, lastMark, once, present, single, judge}
 use Rattle.operation.specs.Book.{times, Each, none, more}
 use Rattle.operation.specs.Faults.{keysOf, First, Last, Once, Unmet, asks, Doubled, RowFault, again, missing, both}
 use Rattle.operation.proofs.Judging.{counts, some, absent, moved, room}

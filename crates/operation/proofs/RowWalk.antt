@@ -10,7 +10,8 @@ use native.Mathlib.Omega.{arith}
 use native.Mathlib.Nat.{add-zero}
 use native.Mathlib.Numerals.{add-one}
 use Rattle.element.specs.Answer.{accepted, refused}
-use Rattle.operation.specs.Row.{Row, Line, must, oneOf, may, Item, onLine, occurs, lastMark, single, numberOf}
+use Rattle.operation.specs.Row.{Row, Line, must, oneOf, may, Item, onLine, numberOf}
+use Rattle.operation.specs.Judge.{occurs, lastMark, single}
 use Rattle.operation.specs.Coded.{lineIn, rowIn}
 use Rattle.operation.specs.Noting.{lineOf, asked}
 use Rattle.operation.proofs.LineCode.{by-line, allows, chooses}

@@ -10,7 +10,8 @@ use native.Mathlib.Omega.{arith}
 use Rattle.element.specs.Octets.{if}
 use Rattle.element.specs.Answer.{accepted, refused}
 use Rattle.operation.specs.Row.{Row}
-use Rattle.operation.specs.Rows.{Operation, operations, find, rowOf}
+use Rattle.operation.specs.Rows.{Operation, operations}
+use Rattle.operation.specs.Finding.{find, rowOf}
 use Rattle.operation.specs.Demands.{RowFor, NoRow}
 use Rattle.operation.proofs.Readings.{either-row}
 

@@ -9,16 +9,16 @@ use lib.Dec.{eqb}
 use native.Mathlib.Omega.{arith}
 use Rattle.element.specs.Octets.{Octets, AreOctets, if}
 use Rattle.element.specs.Answer.{Answer, accepted, refused}
-use Rattle.component.specs.Layout.{Entry}
+use Rattle.component.specs.Table.{Entry, idOf, tableWith}
 use Rattle.component.specs.Grammar.{Parameter, Component, parametersOf, kindOf, identifierOf, specifierOf}
 use Rattle.component.specs.Faults.{LaidOut}
 use Rattle.component.specs.Shown.{Shows, Pairwise}
 use Rattle.component.specs.Standing.{standing}
-use Rattle.component.specs.Table.{idOf, tableWith}
 use Rattle.component.proofs.Complete.{complete-stands}
-use Rattle.operation.specs.Row.{Row, judge, pointed, named as names}
+use Rattle.operation.specs.Row.{Row, named as names}
+use Rattle.operation.specs.Judge.{judge, pointed}
 use Rattle.operation.specs.Points.{Points, repeated, missing, neither, both}
-use Rattle.operation.specs.Reading.{itemOf}
+use Rattle.operation.specs.Items.{itemOf}
 use Rattle.operation.specs.Demands.{RowFor, keyOf, tally, ReaderRefuses, tells, Joined, done, kept, newcomer, moved, newcomers, placeIn, Truthful, both-accepted, same-missing, same-parameter, Demand3}
 use Rattle.operation.specs.Model.{reader, Ours}
 use Rattle.operation.proofs.Marks.{points}

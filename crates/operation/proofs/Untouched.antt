@@ -4,7 +4,8 @@ use mathlib.Core.Path.{_≡_, refl}
 use mathlib.Core.Bool.{Bool, true, false, _&&_, or-true, true≢false}
 use mathlib.Core.List.{List, [], _∷_}
 use borrow.Author.Tests.{ne-eqb}
-use Rattle.operation.specs.Row.{Row, Line, must, oneOf, may, Item, onLine, named, occurs, lastMark, once, present, single, judge, countNamed}
+use Rattle.operation.specs.Row.{Row, Line, must, oneOf, may, Item, onLine, named}
+use Rattle.operation.specs.Judge.{occurs, lastMark, once, present, single, judge, countNamed}
 use Rattle.operation.specs.Newcomers.{Grown, done, kept, newcomer}
 use Rattle.operation.proofs.Lines.{or-false, self}
 

@@ -5,8 +5,10 @@ use mathlib.Core.Path.{_≡_, refl}
 use mathlib.Core.List.{List, [], _∷_}
 use borrow.Author.Tests.{ne-eqb}
 use Rattle.element.specs.Answer.{Answer, accepted, refused, _>>_}
-use Rattle.operation.specs.Row.{Row, Item, once, present, single, judge, countNamed}
-use Rattle.operation.specs.Rows.{rowOf, find, operations}
+use Rattle.operation.specs.Row.{Row, Item}
+use Rattle.operation.specs.Judge.{once, present, single, judge, countNamed}
+use Rattle.operation.specs.Finding.{rowOf, find}
+use Rattle.operation.specs.Rows.{operations}
 use Rattle.operation.specs.Coded.{judgement, verdict}
 use Rattle.operation.specs.Firsts.{onceCounted}
 

@@ -10,13 +10,17 @@ use Rattle.element.specs.Octets.{Octets}
 use Rattle.element.specs.Answer.{Answer, accepted, refused, _>>=_}
 use Rattle.component.specs.declared.Id as D
 use Rattle.component.specs.Grammar.{Parameter}
-use Rattle.component.specs.Composing.{entryOf, entryStands, entriesFrom, entriesOf, octetsNeeded, setSize, Sizes, measured, octetsOf, composing}
+use Rattle.component.specs.Table.{entryOf}
+use Rattle.component.specs.Composing.{entryStands, entriesFrom, entriesOf, Sizes, measured, octetsOf, composing}
+use Rattle.component.specs.Needed.{octetsNeeded, setSize}
 use Rattle.component.proofs.Taken.{taken, passed}
 use Rattle.component.proofs.Measuring.{ready}
-use Rattle.operation.specs.Row.{Row, Item, judge, countNamed}
-use Rattle.operation.specs.Rows.{rowOf}
+use Rattle.operation.specs.Row.{Row, Item}
+use Rattle.operation.specs.Judge.{judge, countNamed}
+use Rattle.operation.specs.Finding.{rowOf}
 use Rattle.operation.specs.Coded.{itemAt, itemsFrom, judgement, verdict}
-use Rattle.operation.specs.Writing.{itemsOf, writing}
+use Rattle.operation.specs.Items.{itemsOf}
+use Rattle.operation.specs.Writing.{writing}
 use Rattle.operation.proofs.Marks.{points, item}
 use Rattle.operation.proofs.Readings.{either-row}
 

@@ -5,13 +5,15 @@ use mathlib.Core.Path.{_≡_, refl}
 use mathlib.Core.List.{List, [], _∷_, map}
 use Rattle.element.specs.Octets.{Octets}
 use Rattle.element.specs.Answer.{Answer, accepted, refused}
-use Rattle.element.specs.Length.{lengthAt}
-use Rattle.element.specs.Identifier.{within, numbered, identifierAt}
+use Rattle.element.specs.Decoded.{lengthAt, within, numbered, identifierAt}
 use Rattle.component.specs.Layout.{spanOf, contents, wanted, setAt, operation, invoke, result, headOf, parameter, parameterAt, parameters, layoutOf}
 use Rattle.component.specs.Shown.{specifierIn}
-use Rattle.operation.specs.Row.{key, numberOf, onLine, named, repeats, occurs, lastMark, once, present, single, judge, countNamed}
-use Rattle.operation.specs.Rows.{operations, find, rowOf}
-use Rattle.operation.specs.Reading.{Shown, itemOf, countOther, reading}
+use Rattle.operation.specs.Row.{key, numberOf, onLine, named, repeats}
+use Rattle.operation.specs.Judge.{occurs, lastMark, once, present, single, judge, countNamed}
+use Rattle.operation.specs.Rows.{operations}
+use Rattle.operation.specs.Finding.{find, rowOf}
+use Rattle.operation.specs.Reading.{Shown, countOther, reading}
+use Rattle.operation.specs.Items.{itemOf}
 
 -- what the listing says of a component
 pub record Listed : Type 0 where

@@ -7,8 +7,9 @@ use Rattle.element.specs.Octets.{if}
 use Rattle.element.specs.Answer.{Answer, accepted, refused, _>>=_, _>>_}
 use Rattle.operation.specs.declared.Judged as J
 use Rattle.operation.specs.declared.Judged.the-variants as JV
-use Rattle.operation.specs.Row.{Row, Line, must, oneOf, may, Item, key, judge, countNamed}
-use Rattle.operation.specs.Rows.{rowOf}
+use Rattle.operation.specs.Row.{Row, Line, must, oneOf, may, Item, key}
+use Rattle.operation.specs.Judge.{judge, countNamed}
+use Rattle.operation.specs.Finding.{rowOf}
 
 -- the low 16 bits are a key, the next 16 the other key of a choice, and above them stands 0 for may, 1 for must, 2 for a choice
 unfoldable pub lineIn : ℕ → Line

@@ -7,22 +7,19 @@ use mathlib.Core.List.{List, [], _∷_, _++_, map, List·Memᴰ}
 use mathlib.Core.Logic.{_⊎_}
 use lib.ListN.{length, getD, take, drop}
 use Rattle.element.specs.Octets.{Octets, AreOctets, if}
-use Rattle.element.specs.Answer.{Answer, accepted, refused}
-use Rattle.component.specs.declared.Id as D
-use Rattle.component.specs.Layout.{Entry}
+use Rattle.element.specs.Answer.{accepted, refused}
+use Rattle.component.specs.Table.{Entry, idOf, tableWith, idOctets, componentOf, parametersFrom}
 use Rattle.component.specs.Grammar.{Parameter, Component, Invoke, Result, parametersOf, kindOf, identifierOf, specifierOf}
 use Rattle.component.specs.Faults.{Faulty, LaidOut, Typed, Allowed}
 use Rattle.component.specs.Composed.{composed}
 use Rattle.component.specs.Standing.{standing, specifierPlace}
-use Rattle.component.specs.Table.{idOf, tableWith}
-use Rattle.component.specs.Composing.{entryOf, idOctets, octetsNeeded, componentOf}
+use Rattle.component.specs.Needed.{octetsNeeded}
 use Rattle.operation.specs.Row.{Row, key, named as names}
 use Rattle.operation.specs.Rows.{operations}
 use Rattle.operation.specs.Book.{Fits}
 use Rattle.operation.specs.Faults.{RowFault}
-use Rattle.operation.specs.Reading.{itemOf}
-use Rattle.operation.specs.Writing.{itemsOf}
-use Rattle.operation.specs.Told.{Told}
+use Rattle.operation.specs.Items.{itemOf, itemsOf}
+use Rattle.operation.specs.Caller.{Told, Read, Reader, Order, Writer}
 
 abbrev pub keyOf : Parameter → ℕ
 keyOf p = key (p .number) (p .form)
@@ -38,31 +35,6 @@ NoRow kind specifier = (row : Row) → RowFor kind specifier row → ⊥
 unfoldable pub tally : (ℕ → Bool) → List ℕ → ℕ
 tally test [] = 0
 tally test (k ∷ ks) = if (test k) (1 + tally test ks) (tally test ks)
-
--- ---- what a caller sees
--- of a reader: octets, specifier and lent table go in, an answer and the table come back
-pub record Read : Type 0 where
-  pub answer : Answer Told
-  pub table : List ℕ
-
-abbrev pub Reader : Type 0
-Reader = (octets : Octets) (specifier : ℕ) (table : List ℕ) → Read
-
--- of a writer: what is ordered and a lent output go in, the octet count and the output come back
-pub record Order : Type 0 where
-  pub kind : ℕ
-  pub id : D.Id
-  pub specifier : ℕ
-  pub count : ℕ
-  pub table : List ℕ
-  pub source : Octets
-
-pub record Wrote : Type 0 where
-  pub answer : Answer ℕ
-  pub output : Octets
-
-abbrev pub Writer : Type 0
-Writer = (order : Order) (output : Octets) → Wrote
 
 -- ---- the reader: 1, the faults of the octets, 11, and the faults of the run against its row, each parameter marked by its place
 pub data ReaderRefuses (s : Octets) (given : ℕ) (t : List ℕ) : (number detail : ℕ) → Type 0 where
@@ -97,11 +69,6 @@ pub record EntryStands (o : Order) (i : ℕ) : Type 0 where
   pub number : getD (o .table) (4 * i) 0 ≤ 16383
   pub form : getD (o .table) (4 * i + 1) 0 ≤ 1
   pub content : getD (o .table) (4 * i + 2) 0 + getD (o .table) (4 * i + 3) 0 ≤ length (o .source)
-
--- the parameters of `count` entries from `i` on
-unfoldable pub parametersFrom : (i count : ℕ) (table : List ℕ) (source : Octets) → List Parameter
-parametersFrom i zero t source = []
-parametersFrom i (suc n) t source = entryOf t source i ∷ parametersFrom (i + 1) n t source
 
 abbrev pub ordered : Order → List Parameter
 ordered o = parametersFrom 0 (o .count) (o .table) (o .source)

@@ -6,10 +6,10 @@ use lib.Dec.{eqb}
 use Rattle.element.specs.Octets.{if}
 use Rattle.element.specs.Answer.{Answer, accepted, refused}
 use Rattle.component.specs.declared.Heading as G
-use Rattle.component.specs.Table.{copied}
+use Rattle.component.specs.Outline.{copied}
 use Rattle.operation.specs.declared.Judged as J
 use Rattle.operation.specs.declared.Judged.the-variants as JV
-use Rattle.operation.specs.Told.{Told}
+use Rattle.operation.specs.Caller.{Told}
 
 unfoldable pub specifierFor : G.Heading → (given : ℕ) → ℕ
 specifierFor h given = if (eqb (h .kind) 0xE9) (h .specifier) given

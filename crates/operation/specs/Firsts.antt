@@ -2,7 +2,8 @@
 use Prim.Native.Nat.{ℕ}
 use mathlib.Core.List.{List, []}
 use Rattle.element.specs.Answer.{Answer, accepted, refused, _>>=_, _>>_}
-use Rattle.operation.specs.Row.{Row, Item, once, countNamed}
+use Rattle.operation.specs.Row.{Row, Item}
+use Rattle.operation.specs.Judge.{once, countNamed}
 use Rattle.operation.specs.declared.Repeat as R
 use Rattle.operation.specs.declared.Repeat.the-variants as RV
 use Rattle.operation.specs.declared.Missing as M

@@ -1,9 +1,14 @@
 pub mod Row
 pub mod Rows
 pub mod Book
+pub mod Items
+pub mod Faults
+pub mod Caller
+pub mod Demands
+pub mod Judge
+pub mod Finding
 pub mod Newcomers
 pub mod Points
-pub mod Faults
 pub mod Coded
 pub mod Firsts
 pub mod Noting
@@ -11,6 +16,5 @@ pub mod Reading
 pub mod Writing
 pub mod Told
 pub mod Finishing
-pub mod Demands
 pub mod Model
 pub mod Charts

@@ -9,7 +9,8 @@ use Rattle.component.specs.Composing.{written, outputAfter}
 use Rattle.operation.specs.Reading.{reading, tableAfter}
 use Rattle.operation.specs.Writing.{writing}
 use Rattle.operation.specs.Told.{told}
-use Rattle.operation.specs.Demands.{Reader, Order, Writer, Demands}
+use Rattle.operation.specs.Caller.{Reader, Order, Writer}
+use Rattle.operation.specs.Demands.{Demands}
 
 abbrev pub reader : Reader
 reader s given t = record { answer = told (reading s given (length t)); table = tableAfter t (reading s given (length t)) }

@@ -7,7 +7,8 @@ use lib.ListN.{length, getD}
 use lib.Dec.{eqb}
 use Rattle.element.specs.Octets.{if}
 use Rattle.element.specs.Answer.{Answer, accepted, _>>_, check}
-use Rattle.operation.specs.Row.{Row, Line, must, oneOf, may, Item, onLine, occurs, numberOf}
+use Rattle.operation.specs.Row.{Row, Line, must, oneOf, may, Item, onLine, numberOf}
+use Rattle.operation.specs.Judge.{occurs}
 use Rattle.operation.specs.Coded.{rowIn}
 use Rattle.operation.specs.declared.Repeat as R
 use Rattle.operation.specs.declared.Repeat.the-variants as RV

@@ -4,11 +4,13 @@ use mathlib.Core.List.{List, [], _∷_, map}
 use lib.Dec.{leb}
 use Rattle.element.specs.Octets.{Octets, if, between}
 use Rattle.element.specs.Answer.{Answer, accepted, refused, _>>=_, _>>_, check}
-use Rattle.component.specs.Layout.{Entry, layoutOf}
+use Rattle.component.specs.Table.{Entry, tableWith}
+use Rattle.component.specs.Layout.{layoutOf}
 use Rattle.component.specs.Shown.{specifierIn}
-use Rattle.component.specs.Table.{tableWith}
-use Rattle.operation.specs.Row.{Row, Item, key, named, judge, countNamed}
-use Rattle.operation.specs.Rows.{rowOf}
+use Rattle.operation.specs.Row.{Row, Item, named}
+use Rattle.operation.specs.Judge.{judge, countNamed}
+use Rattle.operation.specs.Finding.{rowOf}
+use Rattle.operation.specs.Items.{itemOf}
 
 pub record Shown : Type 0 where
   pub kind : ℕ
@@ -17,10 +19,6 @@ pub record Shown : Type 0 where
   pub entries : List Entry
   pub named : ℕ
   pub other : ℕ
-
--- an entry as a row sees it, marked by its place
-unfoldable pub itemOf : Entry → Item
-itemOf e = record { is = key (e .number) (e .form); mark = e .place }
 
 -- what a row does not name is counted as other
 unfoldable pub countOther : Row → List Item → ℕ

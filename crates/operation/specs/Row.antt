@@ -1,10 +1,8 @@
--- A row of the paper, and how it judges a run of parameters. Nothing here knows which rows there are.
+-- A row of the paper, and what it sees of a run of parameters. Nothing here knows which rows there are.
 use Prim.Native.Nat.{ℕ, _+_, _*_, _/_}
-use mathlib.Core.Bool.{Bool, false, _&&_, _||_, not}
+use mathlib.Core.Bool.{Bool, false, _||_}
 use mathlib.Core.List.{List, [], _∷_}
 use lib.Dec.{eqb}
-use Rattle.element.specs.Octets.{if}
-use Rattle.element.specs.Answer.{Answer, accepted, refused, _>>=_, _>>_, check}
 
 -- an identifier as one key: its number twice, and one more where it is a constructor
 unfoldable pub key : (number form : ℕ) → ℕ
@@ -38,48 +36,3 @@ repeats k = eqb k (key 4 0)
 pub record Item : Type 0 where
   pub is : ℕ
   pub mark : ℕ
-
-unfoldable pub occurs : ℕ → List Item → Bool
-occurs k [] = false
-occurs k (x ∷ xs) = eqb (x .is) k || occurs k xs
-
--- the mark of the last item on a line
-unfoldable pub lastMark : Line → (sofar : ℕ) → List Item → ℕ
-lastMark l m [] = m
-lastMark l m (x ∷ xs) = lastMark l (if (onLine l (x .is)) (x .mark) m) xs
-
--- 12: what the row names occurs once
-unfoldable pub once : Row → (seen xs : List Item) → Answer Unit
-once row seen [] = accepted tt
-once row seen (x ∷ xs) = do
-  check (not (named row (x .is) && (not (repeats (x .is)) && occurs (x .is) seen))) 12 (x .mark)
-  once row (x ∷ seen) xs
-
--- 13: what must occur does
-unfoldable pub present : Row → List Item → Answer Unit
-present [] xs = accepted tt
-present (must j ∷ ls) xs = check (occurs j xs) 13 (numberOf j) >> present ls xs
-present (oneOf i j ∷ ls) xs = check (occurs i xs || occurs j xs) 13 (numberOf i) >> present ls xs
-present (may j ∷ ls) xs = present ls xs
-
--- 14: of a choice, not both
-unfoldable pub single : Row → List Item → Answer Unit
-single [] xs = accepted tt
-single (must j ∷ ls) xs = single ls xs
-single (oneOf i j ∷ ls) xs = check (not (occurs i xs && occurs j xs)) 14 (lastMark (oneOf i j) 0 xs) >> single ls xs
-single (may j ∷ ls) xs = single ls xs
-
-unfoldable pub judge : Row → List Item → Answer Unit
-judge row xs = once row [] xs >> present row xs >> single row xs
-
-unfoldable pub countNamed : Row → List Item → ℕ
-countNamed row [] = 0
-countNamed row (x ∷ xs) = if (named row (x .is)) (1 + countNamed row xs) (countNamed row xs)
-
--- the same refusal with each mark moved by `f`: 13 points to a number of the row, and to no mark
-unfoldable pub pointed : (ℕ → ℕ) → Answer Unit → Answer Unit
-pointed f (accepted x) = accepted x
-pointed f (refused n d) = refused n (if (eqb n 13) d (f d))
-
-unfoldable pub remark : (ℕ → ℕ) → Item → Item
-remark f x = record { is = x .is; mark = f (x .mark) }

@@ -2,21 +2,13 @@
 use Prim.Native.Nat.{ℕ}
 use lib.ListN.{length}
 use Rattle.element.specs.Answer.{Answer, accepted, refused, _>>=_}
-use Rattle.component.specs.declared.Id as D
 use Rattle.component.specs.Table.{idOf}
 use Rattle.operation.specs.declared.Reading as R
 use Rattle.operation.specs.declared.Reading.the-variants as RV
 use Rattle.operation.specs.declared.Writing as W
 use Rattle.operation.specs.declared.Writing.the-variants as WV
 use Rattle.operation.specs.Reading.{Shown}
-
-pub record Told : Type 0 where
-  pub kind : ℕ
-  pub id : D.Id
-  pub specifier : ℕ
-  pub all : ℕ
-  pub named : ℕ
-  pub other : ℕ
+use Rattle.operation.specs.Caller.{Told}
 
 -- what is told of what is shown: the entries stand in the table
 unfoldable pub told : Answer Shown → Answer Told

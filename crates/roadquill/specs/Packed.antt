@@ -3,7 +3,7 @@ use Prim.Native.Nat.{ℕ, _+_, _*_}
 use mathlib.Core.List.{List, [], _∷_}
 use Rattle.element.specs.Answer.{Answer, accepted, refused}
 use Rattle.component.specs.declared.Id as D
-use Rattle.operation.specs.Told.{Told}
+use Rattle.operation.specs.Caller.{Told}
 
 -- octets as one number
 unfoldable pub octets : List ℕ → ℕ

@@ -5,7 +5,7 @@ use Prim.Native.Nat.{_+_, _*_, _-_, _≤_}
 use mathlib.Core.Path.{_≡_, sym, _∙_}
 use borrow.Author.Needs.{needs}
 use native.Mathlib.Omega.{arith}
-use Rattle.element.specs.Identifier.{numbered}
+use Rattle.element.specs.Decoded.{numbered}
 use Rattle.element.proofs.Scanning.{left, begins, cut, ends, leads, goes-on, longer}
 use Rattle.element.proofs.Ways.{too-small, too-large, in-range}
 use Rattle.element.proofs.scan.Statement.{statement}

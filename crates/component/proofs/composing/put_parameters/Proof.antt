@@ -4,7 +4,7 @@ use Prim.Native.Nat.{_-_, _≤_}
 use mathlib.Core.Path.{_≡_}
 use lib.ListN.{length}
 use Rattle.component.specs.Composed.{setOf}
-use Rattle.component.specs.Emitting.{entries}
+use Rattle.component.specs.Table.{parametersFrom}
 use Rattle.component.proofs.Counting.{stands}
 use Rattle.component.proofs.Emission.{rest, rest-all, rest-none, room-for, more-put}
 use borrow.Author.Needs.{needs}
@@ -15,7 +15,7 @@ use Rattle.component.proofs.composing.put_parameters.Tie as tie
 
 abbrev Inv-entries : tie.InvT-entries
 Inv-entries count table source out₀ at i₀ next₀ out i next =
-    (i ≤ count) × (length out ≡ length out₀) × Left (setOf (entries 0 count table source)) at out₀ (rest count table source i) next out
+    (i ≤ count) × (length out ≡ length out₀) × Left (setOf (parametersFrom 0 count table source)) at out₀ (rest count table source i) next out
 
 abbrev μ-entries : tie.MeasureT-entries
 μ-entries count table source out₀ at i₀ next₀ out i next = count - i

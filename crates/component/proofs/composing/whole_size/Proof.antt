@@ -2,7 +2,7 @@
 -- Assumes nothing.
 use borrow.Author.Needs.{needs}
 use mathlib.Core.Path.{ap, _∙_}
-use Rattle.component.specs.Composing.{elementSize}
+use Rattle.component.specs.Needed.{elementSize}
 use Rattle.component.proofs.Measuring.{too-long, measures}
 use Rattle.component.proofs.composing.whole_size.Statement.{statement}
 use Rattle.component.proofs.composing.whole_size.Tie as tie

@@ -9,7 +9,7 @@ use native.Mathlib.Omega.{arith}
 use native.Mathlib.Numerals.{add-one}
 use borrow.Author.Needs.{needs}
 use borrow.Author.Tests.{le-leb, lt-leb}
-use Rattle.component.specs.Table.{copied}
+use Rattle.component.specs.Outline.{copied}
 use Rattle.component.proofs.reading.copy_numbers.Statement.{statement}
 use Rattle.component.proofs.reading.copy_numbers.Tie as tie
 

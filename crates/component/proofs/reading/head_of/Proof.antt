@@ -9,7 +9,7 @@ use lib.ListN.{length, getD}
 use native.Mathlib.Omega.{arith}
 use borrow.Author.Tests.{le-leb, lt-leb, le-ltb, lt-ltb, eq-eqb, ne-eqb}
 use Rattle.component.specs.Layout.{headOf}
-use Rattle.component.specs.Table.{headed, headingsOf}
+use Rattle.component.specs.Outline.{headed, headingsOf}
 use Rattle.component.specs.Told.{spanIn}
 use Rattle.component.proofs.Inside.{inside}
 use Rattle.component.proofs.reading.head_of.Statement.{statement}

@@ -5,7 +5,7 @@ use mathlib.Core.Path.{sym, ap, _∙_}
 use native.Mathlib.Omega.{arith}
 use borrow.Author.Tests.{le-leb, lt-leb}
 use Rattle.component.specs.Layout.{invoke}
-use Rattle.component.specs.Table.{headed}
+use Rattle.component.specs.Outline.{headed}
 use Rattle.component.specs.Told.{spanIn}
 use Rattle.component.proofs.Inside.{wanted-inside}
 use Rattle.component.proofs.reading.invoke_at.Statement.{statement}

@@ -7,7 +7,8 @@ use lib.ListN.{length}
 use native.Mathlib.Omega.{arith}
 use borrow.Author.Needs.{needs}
 use Rattle.component.specs.Layout.{parameters}
-use Rattle.component.specs.Table.{counted, tableWith, walked}
+use Rattle.component.specs.Outline.{counted, walked}
+use Rattle.component.specs.Table.{tableWith}
 use Rattle.component.specs.Told.{entryIn}
 use Rattle.component.proofs.Inside.{parameter-inside}
 use Rattle.component.proofs.Walking.{left, leftover, begins, ends, full, goes-on, stops}

@@ -5,7 +5,7 @@ use mathlib.Core.Path.{sym, ap, _∙_}
 use native.Mathlib.Omega.{arith}
 use borrow.Author.Tests.{eq-eqb, ne-eqb}
 use Rattle.component.specs.Layout.{result}
-use Rattle.component.specs.Table.{headed, headingOf, specifierAt}
+use Rattle.component.specs.Outline.{headed, headingOf, specifierAt}
 use Rattle.component.specs.Told.{spanIn}
 use Rattle.component.proofs.Inside.{wanted-inside}
 use Rattle.component.proofs.reading.result_at.Statement.{statement}

@@ -5,7 +5,7 @@ use Prim.Native.Nat.{_-_}
 use mathlib.Core.Path.{_≡_, refl, sym, _∙_}
 use lib.ListN.{length}
 use borrow.Author.Needs.{needs}
-use Rattle.operation.specs.Row.{single}
+use Rattle.operation.specs.Judge.{single}
 use Rattle.operation.specs.Coded.{rowIn, itemsFrom}
 use Rattle.operation.proofs.RowWalk.{rowFrom, line-at, row-over, all-single, no-choice, not-first, not-second, both}
 use Rattle.operation.proofs.engine.first_both.Statement.{statement}

@@ -9,7 +9,7 @@ use mathlib.Core.Logic.{⊎-elim}
 use lib.ListN.{length, length-set}
 use native.Mathlib.Omega.{arith}
 use borrow.Author.Needs.{needs}
-use Rattle.operation.specs.Row.{occurs}
+use Rattle.operation.specs.Judge.{occurs}
 use Rattle.operation.specs.Coded.{rowIn, itemsFrom}
 use Rattle.operation.specs.Firsts.{onceCounted}
 use Rattle.operation.specs.Noting.{Notes, Alone}

@@ -3,7 +3,7 @@
 use Prim.Native.Nat.{_-_}
 use mathlib.Core.Path.{_≡_, sym, ap, _∙_}
 use borrow.Author.Needs.{needs}
-use Rattle.operation.specs.Row.{lastMark}
+use Rattle.operation.specs.Judge.{lastMark}
 use Rattle.operation.specs.Coded.{lineIn, itemsFrom}
 use Rattle.operation.proofs.Entries.{rest, all, last-known, last-here, last-other}
 use Rattle.operation.proofs.engine.last_on.Statement.{statement}

@@ -3,7 +3,7 @@
 use Prim.Native.Nat.{_-_}
 use mathlib.Core.Path.{_≡_, sym, ap, _∙_}
 use borrow.Author.Needs.{needs}
-use Rattle.operation.specs.Row as R
+use Rattle.operation.specs.Judge as R
 use Rattle.operation.specs.Coded.{itemsFrom}
 use Rattle.operation.proofs.Entries.{rest, all, over, more, found, passed, nowhere}
 use Rattle.operation.proofs.engine.occurs.Statement.{statement}

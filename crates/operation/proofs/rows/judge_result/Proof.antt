@@ -3,7 +3,8 @@
 use mathlib.Core.Path.{refl}
 use borrow.Author.Needs.{needs}
 use Rattle.operation.specs.Row.{key, onLine}
-use Rattle.operation.specs.Rows.{rowOf, find, operations}
+use Rattle.operation.specs.Finding.{rowOf, find}
+use Rattle.operation.specs.Rows.{operations}
 use Rattle.operation.specs.Coded.{lineIn, rowIn}
 use Rattle.operation.specs.Noting.{lineOf, first, firstFrom, distinct}
 use Rattle.operation.proofs.Verdicts.{found, no-result}
