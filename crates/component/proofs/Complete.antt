@@ -12,18 +12,16 @@ use native.Mathlib.Omega.{arith}
 use Rattle.element.specs.Octets.{Octets, if, between}
 use Rattle.element.specs.Answer.{Answer, accepted, _>>=_}
 use Rattle.element.specs.Length.{short, shortest}
-use Rattle.element.specs.Identifier.{IdentifierField, identifier}
+use Rattle.element.specs.Identifier.{IdentifierField}
 use Rattle.element.proofs.LengthLaws as L
 use Rattle.element.proofs.IdentifierLaws as I
 use Rattle.component.specs.Layout.{Span, contents, spanOf, wanted, setAt, operation, invoke, result, Head, headOf, parameter, parameterAt, parameters, Layout, layoutOf}
 use Rattle.component.specs.Table.{Entry, next}
-use Rattle.component.specs.Grammar.{Parameter, Element, laid, Parameters, Component, Invoke, Laid, invoked, answered, parametersOf, kindOf, identifierOf, specifierOf}
+use Rattle.component.specs.Grammar.{Parameter, Element, laid, Parameters, Component, Laid, invoked, answered, parametersOf, kindOf, identifierOf, specifierOf}
 use Rattle.component.specs.Grammar as G
 use Rattle.component.specs.Shown.{Shows, Pairwise, Outlines, specifierIn}
 use Rattle.component.specs.Shown as S
-use Rattle.component.specs.Composed.{element, setOf, composed}
-use Rattle.component.specs.Standing.{entryAt, entriesAt, setPlace, standing, specifierPlace}
-use Rattle.component.proofs.Composes.{is-element, is-identifier, is-set, is-composed}
+use Rattle.component.specs.Standing.{entryAt, entriesAt, standing, specifierPlace}
 
 -- an answer that accepts what `P` holds of, step by step
 data Accepts {A : Type 0} (P : A → Type 0) : Answer A → Type 0 where
@@ -44,13 +42,11 @@ pub first-octet : {octet : ℕ} {head body e : Octets} → Element (octet ∷ he
 first-octet (laid field r) behind = refl
 
 -- the entry of a parameter is the one that stands there
-stands-at : (p : Parameter) {at start size : ℕ} {head e : Octets} → IdentifierField (p .number) (p .form) head → Element head (p .content) e →
-    at + length e ≡ start + size → size ≡ length (p .content) → record { number = p .number; form = p .form; place = at; start = start; size = size } ≡ entryAt at p
-unfolding entryAt element
-stands-at p {at} {start} {size} {head} n w k l =
-    let i = ap length (is-identifier n) in
-    let e = simp length-append at (ap length (is-element w)) in
-    let h : start ≡ at + length (identifier (p .number) (p .form)) + length (shortest (length (p .content))) = omega arith in
+stands-at : (p : Parameter) {at start size : ℕ} {head e : Octets} → Element head (p .content) e → at + length e ≡ start + size → size ≡ length (p .content) →
+    record { number = p .number; form = p .form; place = at; start = start; size = size } ≡ entryAt at e p
+unfolding entryAt
+stands-at p {at} {start} {e = e} w k l =
+    let h : start ≡ at + (length e - length (p .content)) = omega (arith, longer w) in
     ap₂ (λ a b. record { number = p .number; form = p .form; place = at; start = a; size = b }) h l
 
 -- `a` stands at `at`, and `behind` behind it
@@ -115,13 +111,13 @@ module _ (s : Octets) where
   setAt-of w h end k = then (rw k at (wanted-of w h 8 end (omega arith))) λ x i. rw (eq-eqb (x .end) end (omega arith)) (accepts i)
 
   -- parameters
-  record Next (p : Parameter) (at to : ℕ) (x : Entry) : Type 0 where
+  record Next (p : Parameter) (at : ℕ) (e : Octets) (x : Entry) : Type 0 where
     shows : Shows s x p
-    ends : to ≡ next x
-    stands : x ≡ entryAt at p
+    ends : at + length e ≡ next x
+    stands : x ≡ entryAt at e p
 
   parameter-of : (p : Parameter) {at : ℕ} {head e behind : Octets} → IdentifierField (p .number) (p .form) head → Element head (p .content) e →
-      Stands at e behind → (end : ℕ) → at + length e ≤ end → end ≤ length s → Accepts (Next p at (at + length e)) (parameterAt s at end)
+      Stands at e behind → (end : ℕ) → at + length e ≤ end → end ≤ length s → Accepts (Next p at e) (parameterAt s at end)
   unfolding parameterAt parameter
   parameter-of p {at} n w h end k l =
       let (rest, b) = seen (identified w h .1) end (omega (arith, longer w)) in
@@ -129,31 +125,32 @@ module _ (s : Octets) where
       (then (contents-of w h end k) λ x i. accepts (record {
         shows = record { number = refl; form = refl; inside = omega arith; content = body-of i };
         ends = omega arith;
-        stands = stands-at p n w (omega arith) (omega arith);
+        stands = stands-at p w (omega arith) (omega arith);
       }))
 
-  parameters-of : {ps : List Parameter} {set : Octets} → Parameters ps set → {at : ℕ} {behind : Octets} (room end : ℕ) → Stands at set behind →
-      at + length set ≡ end → end ≤ length s → length ps ≤ room → Accepts (λ es. Pairwise (Shows s) es ps × (es ≡ entriesAt at ps)) (parameters room s at end)
+  parameters-of : {ps : List Parameter} {set : Octets} (r : Parameters ps set) → {at : ℕ} {behind : Octets} (room end : ℕ) → Stands at set behind →
+      at + length set ≡ end → end ≤ length s → length ps ≤ room → Accepts (λ es. Pairwise (Shows s) es ps × (es ≡ entriesAt at r)) (parameters room s at end)
   unfolding parameters entriesAt
   parameters-of G.none {at} zero end e h k l = rw (le-leb end at (omega arith)) (accepts (S.none, refl))
   parameters-of G.none {at} (suc room) end e h k l = rw (le-leb end at (omega arith)) (accepts (S.none, refl))
   parameters-of (G.more p n w r) zero end e h k l = absurd (omega arith)
-  parameters-of (G.more p {ps = qs} {s = i} {rest = rest} n w r) {at} (suc room) end e h k l =
+  parameters-of (G.more p {s = i} {rest = rest} n w r) {at} (suc room) end e h k l =
       let m = length-append i rest in
       rw (lt-leb end at (omega (arith, longer w)))
       (then (parameter-of p n w (front i rest e) end (omega arith) k) λ x a.
       then (parameters-of r room end (rw (a .ends) at (back i rest e)) (omega arith) k (omega arith)) λ es b.
-      accepts (S.more (a .shows) (b .0), ap₂ (λ y ys. y ∷ ys) (a .stands) (b .1 ∙ ap (λ k. entriesAt (next k) qs) (a .stands))))
+      accepts (S.more (a .shows) (b .0), ap₂ (λ y ys. y ∷ ys) (a .stands) (b .1 ∙ ap (λ k. entriesAt k r) (sym (a .ends)))))
 
   -- the component
-  record Heads (c : Component) (h : Head) : Type 0 where
+  record Heads {c : Component} (x : Laid c s) (h : Head) : Type 0 where
     kind : h .kind ≡ kindOf c
     id : between (h .id .start) (h .id .end) s ≡ identifierOf c
     specifier : (given : ℕ) → if (eqb (h .kind) 0xE9) (getD s (h .operation) 0) given ≡ specifierOf c given
     octets : Octets
     holds : Parameters (parametersOf c) octets
     set : Inside octets [] (length s) (h .set)
-    place : h .operation ≡ specifierPlace c
+    stands : entriesAt (length s - length octets) holds ≡ standing x
+    place : h .operation ≡ specifierPlace x
 
   whole : {kind : ℕ} {body : Octets} {P : Head → Type 0} → Element (kind ∷ []) body s → eqb kind 0xE9 || eqb kind 0xEA ≡ true → length s ≤ 4096 →
       ((x : Span) → Inside body [] (length s) x → Accepts P (if (eqb kind 0xE9) (invoke s x) (result s x))) → Accepts P (headOf s)
@@ -167,17 +164,8 @@ code : (specifier : ℕ) → Element (0xD1 ∷ []) (9 ∷ specifier ∷ []) (0xD
 unfolding shortest
 code specifier = laid (shortest 2) (short 2 (omega arith))
 
--- the specifier of an INVOKE is the octet before its set
-before-set : {id : Octets} {specifier : ℕ} {ps : List Parameter} {f set s : Octets} → Laid (Invoke id specifier ps) s → Parameters ps set → Element (0xF2 ∷ []) set f →
-    (at : ℕ) → at + 1 + length f ≡ length s → at ≡ specifierPlace (Invoke id specifier ps)
-unfolding specifierPlace
-before-set x r v at e =
-    let a = ap length (is-composed x) in
-    let b = ap length (rw (is-set r) at (is-element v)) in
-    omega arith
-
-head-of : {c : Component} {s : Octets} → Laid c s → length s ≤ 4096 → Accepts (Heads s c) (headOf s)
-unfolding invoke operation result specifierPlace
+head-of : {c : Component} {s : Octets} (x : Laid c s) → length s ≤ 4096 → Accepts (Heads s x) (headOf s)
+unfolding invoke operation result standing specifierPlace
 head-of (invoked id specifier ps i f set s a b w r v x) h = whole s x refl h λ y j.
     let o = 0xD1 ∷ 2 ∷ 9 ∷ specifier ∷ [] in
     let n = length-append i o in
@@ -196,7 +184,8 @@ head-of (invoked id specifier ps i f set s a b w r v x) h = whole s x refl h λ 
       octets = set;
       holds = r;
       set = rw (j .ends) p;
-      place = before-set (invoked id specifier ps i f set s a b w r v x) r v (d .start + 1) (omega arith);
+      stands = refl;
+      place = omega arith;
     })))
 head-of (answered id ps i f set s a w r v x) h = whole s x refl h λ y j.
     let n = length-append i f in
@@ -210,30 +199,25 @@ head-of (answered id ps i f set s a w r v x) h = whole s x refl h λ y j.
       octets = set;
       holds = r;
       set = rw (j .ends) m;
+      stands = refl;
       place = refl;
     }))
 
 -- with where its parts stand
-pub record Reads (s : Octets) (c : Component) (l : Layout) : Type 0 where
+pub record Reads {s : Octets} {c : Component} (x : Laid c s) (l : Layout) : Type 0 where
   pub outlines : Outlines s l c
-  pub entries : l .entries ≡ standing c
-  pub operation : l .head .operation ≡ specifierPlace c
+  pub entries : l .entries ≡ standing x
+  pub operation : l .head .operation ≡ specifierPlace x
 
-pub complete-stands : {c : Component} {s : Octets} → Laid c s → length s ≤ 4096 → length (parametersOf c) ≤ 64 →
-    (l : Layout) × (layoutOf s ≡ accepted l) × Reads s c l
-unfolding layoutOf specifierIn standing setPlace
-complete-stands {c} {s} x h k = taken
+pub complete : {c : Component} {s : Octets} (x : Laid c s) → length s ≤ 4096 → length (parametersOf c) ≤ 64 →
+    (l : Layout) × (layoutOf s ≡ accepted l) × Reads x l
+unfolding layoutOf specifierIn
+complete {c} {s} x h k = taken
     (then (head-of x h) λ y a.
     then (parameters-of s (a .holds) 64 (y .set .end) (a .set .starts) (omega arith) (omega arith) k) λ es b.
-    let m = ap length (is-composed x) in
-    let n = ap length (is-set (a .holds)) in
-    let z : y .set .start ≡ length (composed c) - length (setOf (parametersOf c)) = omega arith in
+    let z : y .set .start ≡ length s - length (a .octets) = omega arith in
     accepts (record {
       outlines = record { kind = a .kind; id = a .id; specifier = a .specifier; shows = b .0 };
-      entries = b .1 ∙ ap (λ k. entriesAt k (parametersOf c)) z;
+      entries = b .1 ∙ ap (λ k. entriesAt k (a .holds)) z ∙ a .stands;
       operation = a .place;
     }))
-
-pub complete : {c : Component} {s : Octets} → Laid c s → length s ≤ 4096 → length (parametersOf c) ≤ 64 →
-    (l : Layout) × (layoutOf s ≡ accepted l) × Outlines s l c
-complete x h k = let (l, e, r) = complete-stands x h k in (l, e, r .outlines)

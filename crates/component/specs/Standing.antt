@@ -1,36 +1,33 @@
--- Where the parts of a component stand: its set is the last of it, each parameter stands where the one before it ends, and the specifier of
--- an INVOKE is the octet before the set's element.
+-- Where the parts of a component stand, by its layout: the set's contents are the last of it, each parameter stands where the one before it
+-- ends, and the specifier of an INVOKE is the octet before the set.
 use Prim.Native.Nat.{ℕ, _+_, _-_}
 use mathlib.Core.List.{List, [], _∷_}
 use lib.ListN.{length}
-use Rattle.element.specs.Length.{shortest}
-use Rattle.element.specs.Identifier.{identifier}
-use Rattle.component.specs.Table.{Entry, next}
-use Rattle.component.specs.Grammar.{Parameter, Component, Invoke, Result, parametersOf}
-use Rattle.component.specs.Composed.{element, setOf, composed}
+use Rattle.element.specs.Octets.{Octets}
+use Rattle.component.specs.Grammar.{Parameter, Parameters, none, more, Component, Laid, invoked, answered}
+use Rattle.component.specs.Table.{Entry}
 
-unfoldable pub entryAt : (place : ℕ) → Parameter → Entry
-entryAt place p =
+-- the entry of a parameter whose octets `e` stand at `place`: its contents are the last of them
+unfoldable pub entryAt : (place : ℕ) (e : Octets) → Parameter → Entry
+entryAt place e p =
     record {
       number = p .number;
       form = p .form;
       place = place;
-      start = place + length (identifier (p .number) (p .form)) + length (shortest (length (p .content)));
+      start = place + (length e - length (p .content));
       size = length (p .content);
     }
 
-unfoldable pub entriesAt : (place : ℕ) → List Parameter → List Entry
-entriesAt place [] = []
-entriesAt place (p ∷ ps) = entryAt place p ∷ entriesAt (next (entryAt place p)) ps
-
-unfoldable pub setPlace : Component → ℕ
-setPlace c = length (composed c) - length (setOf (parametersOf c))
+unfoldable pub entriesAt : (place : ℕ) {ps : List Parameter} {s : Octets} → Parameters ps s → List Entry
+entriesAt place none = []
+entriesAt place (more p {s = e} n w r) = entryAt place e p ∷ entriesAt (place + length e) r
 
 -- the entries of a component, as they go to the table
-unfoldable pub standing : Component → List Entry
-standing c = entriesAt (setPlace c) (parametersOf c)
+unfoldable pub standing : {c : Component} {s : Octets} → Laid c s → List Entry
+standing (invoked id specifier ps i f set s a b w r v x) = entriesAt (length s - length set) r
+standing (answered id ps i f set s a w r v x) = entriesAt (length s - length set) r
 
 -- 0 in a RESULT
-unfoldable pub specifierPlace : Component → ℕ
-specifierPlace (Invoke id specifier ps) = length (composed (Invoke id specifier ps)) - (length (element (0xF2 ∷ []) (setOf ps)) + 1)
-specifierPlace (Result id ps) = 0
+unfoldable pub specifierPlace : {c : Component} {s : Octets} → Laid c s → ℕ
+specifierPlace (invoked id specifier ps i f set s a b w r v x) = length s - (length f + 1)
+specifierPlace (answered id ps i f set s a w r v x) = 0

@@ -10,7 +10,7 @@ use native.Mathlib.Omega.{arith}
 use Rattle.element.specs.Octets.{Octets, AreOctets}
 use Rattle.element.specs.Answer.{Answer, accepted, refused}
 use Rattle.component.specs.Layout.{Layout, layoutOf}
-use Rattle.component.specs.Grammar.{Parameter, Component, parametersOf, kindOf, identifierOf, specifierOf}
+use Rattle.component.specs.Grammar.{Parameter, Laid, Component, parametersOf, kindOf, identifierOf, specifierOf}
 use Rattle.component.specs.Faults.{LaidOut, Typed, Allowed}
 use Rattle.component.specs.Shown.{specifierIn}
 use Rattle.component.specs.Standing.{standing}
@@ -24,7 +24,7 @@ use Rattle.component.proofs.Making.{Makes, makes, entries-again, octets-again}
 use Rattle.component.proofs.Composes.{composes, is-composed, laid-composable}
 use Rattle.component.proofs.Entries.{as-many, table-shown}
 use Rattle.component.proofs.Sound.{sound}
-use Rattle.component.proofs.Complete.{Reads, complete-stands}
+use Rattle.component.proofs.Complete.{Reads, complete}
 use Rattle.component.proofs.Faulting.{faulty}
 use Rattle.operation.specs.Row.{Row}
 use Rattle.operation.specs.Judge.{judge}
@@ -44,14 +44,14 @@ use Rattle.operation.proofs.OnlyOne.{reader-accepts, refused-so, ready,
 
 -- ---- the reader: what is refused is to be refused, and what is accepted is right
 module _ (s : Octets) (o : AreOctets s) where
-  laid-read : {l : Layout} → layoutOf s ≡ accepted l → (c : Component) × LaidOut c s × Reads s c l
+  laid-read : {l : Layout} → layoutOf s ≡ accepted l → (c : Component) × (h : LaidOut c s) × Reads (h .laid) l
   laid-read {l} e =
       let (c, laid, _, within, few) = sound s o l e in
-      let (m, f, q) = complete-stands laid within few in
+      let (m, f, q) = complete laid within few in
       let p : m ≡ l = cc in
       (c, record { laid = laid; within = within; few = few }, rw p at q)
 
-  same-row : {c : Component} {l : Layout} {x : Answer Row} (given : ℕ) → Reads s c l → rowOf (l .head .kind) (specifierIn s l given) 0 ≡ x →
+  same-row : {c : Component} {h : Laid c s} {l : Layout} {x : Answer Row} (given : ℕ) → Reads h l → rowOf (l .head .kind) (specifierIn s l given) 0 ≡ x →
       rowOf (kindOf c) (specifierOf c given) 0 ≡ x
   same-row given q e = cc (q .outlines .specifier given, q .outlines .kind)
 
@@ -193,7 +193,7 @@ inner e = cc
 module _ (s : Octets) (given : ℕ) (t : List ℕ) (out : Octets) {c : Component} {row : Row} (r : Right s given t c row) (room : length s ≤ length out) where
   -- what a reading of `s` hands on
   abbrev handed : Order
-  handed = record { kind = kindOf c; id = idOf (identifierOf c); specifier = specifierOf c given; count = length (parametersOf c); table = tableWith (standing c) t; source = s }
+  handed = record { kind = kindOf c; id = idOf (identifierOf c); specifier = specifierOf c given; count = length (parametersOf c); table = tableWith (standing (r .laid-out .laid)) t; source = s }
 
   composes-again : written-as handed (length out) ≡ accepted s
   unfolding writing
@@ -201,7 +201,7 @@ module _ (s : Octets) (given : ℕ) (t : List ℕ) (out : Octets) {c : Component
       let l = r .laid-out in
       let composable = laid-composable (l .laid) (l .within) in
       let e = is-composed (l .laid) in
-      let (_, _, z) = complete-stands (l .laid) (l .within) (l .few) in
+      let (_, _, z) = complete (l .laid) (l .within) (l .few) in
       let shows = rw (z .entries) at (z .outlines .shows) in
       rw (
         ← as-many shows,
@@ -212,7 +212,7 @@ module _ (s : Octets) (given : ℕ) (t : List ℕ) (out : Octets) {c : Component
         ← e,
       )
 
-  handed-back : {x : Told} {after : List ℕ} → tells given c row ≡ x → after ≡ tableWith (standing c) t →
+  handed-back : {x : Told} {after : List ℕ} → tells given c row ≡ x → after ≡ tableWith (standing (r .laid-out .laid)) t →
       writer (record { kind = x .kind; id = x .id; specifier = x .specifier; count = x .all; table = after; source = s }) out
       ≡ record { answer = accepted (length s); output = s ++ drop (length s) out }
   unfolding written outputAfter
@@ -273,7 +273,7 @@ module _ (o : Order) (out : Octets) where
       let (m, r) = written-right h w t k in
       let (p, q) = reader-accepts whole b (o .specifier) t r in
       let l = r .laid-out in
-      let (y, e, z) = complete-stands (l .laid) (l .within) (l .few) in
+      let (y, e, z) = complete (l .laid) (l .within) (l .few) in
       let composable = laid-composable (l .laid) (l .within) in
       let shows = rw (z .entries) at (z .outlines .shows) in
       let (_, f) = table-shown shows (composable .identified) t in

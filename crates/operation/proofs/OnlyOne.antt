@@ -21,7 +21,7 @@ use Rattle.component.specs.Table.{parametersFrom, tableWith}
 use Rattle.component.specs.Part.{fits}
 use Rattle.component.specs.Composing.{entryStands, entriesFrom, entriesOf, idFits, octetsOf, written, outputAfter}
 use Rattle.component.specs.Needed.{octetsNeeded}
-use Rattle.component.proofs.Complete.{Reads, complete-stands}
+use Rattle.component.proofs.Complete.{Reads, complete}
 use Rattle.component.proofs.Entries.{as-many}
 use Rattle.component.proofs.Refusing.{refuses}
 use Rattle.operation.specs.Row.{Row}
@@ -48,17 +48,17 @@ nowhere kind specifier e at =
 module _ (s : Octets) (o : AreOctets s) (given : ℕ) (t : List ℕ) where
   -- a component laid out, as ours reads it
   module _ {c : Component} (enough : 256 ≤ length t) (h : LaidOut c s) where
-    its-layout : (l : Layout) × (layoutOf s ≡ accepted l) × Reads s c l
-    its-layout = complete-stands (h .laid) (h .within) (h .few)
+    its-layout : (l : Layout) × (layoutOf s ≡ accepted l) × Reads (h .laid) l
+    its-layout = complete (h .laid) (h .within) (h .few)
 
-    misfits : {row : Row} {n d : ℕ} → rowOf (kindOf c) (specifierOf c given) 0 ≡ accepted row → RowFault row (map itemOf (standing c)) n d →
+    misfits : {row : Row} {n d : ℕ} → rowOf (kindOf c) (specifierOf c given) 0 ≡ accepted row → RowFault row (map itemOf (standing (h .laid))) n d →
         reading s given (length t) ≡ refused n d
     misfits {row} has-row f =
         let (l, e, r) = its-layout in
         let k : rowOf (l .head .kind) (specifierIn s l given) 0 ≡ accepted row = cc (r .outlines .specifier given) in
         reads s given (length t) enough e (anywhere _ _ 0 k (l .head .operation)) ∙ rw (r .entries, row-refuses f)
 
-    rowless : rowOf (kindOf c) (specifierOf c given) 0 ≡ refused 11 0 → reading s given (length t) ≡ refused 11 (specifierPlace c)
+    rowless : rowOf (kindOf c) (specifierOf c given) 0 ≡ refused 11 0 → reading s given (length t) ≡ refused 11 (specifierPlace (h .laid))
     rowless none =
         let (l, e, r) = its-layout in
         let k : rowOf (l .head .kind) (specifierIn s l given) 0 ≡ refused 11 0 = cc (r .outlines .specifier given) in
@@ -75,7 +75,8 @@ module _ (s : Octets) (o : AreOctets s) (given : ℕ) (t : List ℕ) where
   unfolding told tableAfter
   refused-so e = (rw e, rw e)
 
-  pub reader-accepts : {c : Component} {row : Row} → Right s given t c row → (reader s given t .answer ≡ accepted (tells given c row)) × (reader s given t .table ≡ tableWith (standing c) t)
+  pub reader-accepts : {c : Component} {row : Row} (r : Right s given t c row) →
+      (reader s given t .answer ≡ accepted (tells given c row)) × (reader s given t .table ≡ tableWith (standing (r .laid-out .laid)) t)
   unfolding told tableAfter
   reader-accepts {c} {row} r =
       let (l, e, q) = its-layout (r .enough) (r .laid-out) in

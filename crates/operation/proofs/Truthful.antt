@@ -9,17 +9,17 @@ use lib.Dec.{eqb}
 use native.Mathlib.Omega.{arith}
 use Rattle.element.specs.Octets.{Octets, AreOctets, if}
 use Rattle.element.specs.Answer.{Answer, accepted, refused}
-use Rattle.component.specs.Table.{Entry, idOf, tableWith}
+use Rattle.component.specs.Table.{Entry, tableWith}
 use Rattle.component.specs.Grammar.{Parameter, Component, parametersOf, kindOf, identifierOf, specifierOf}
 use Rattle.component.specs.Faults.{LaidOut}
 use Rattle.component.specs.Shown.{Shows, Pairwise}
 use Rattle.component.specs.Standing.{standing}
-use Rattle.component.proofs.Complete.{complete-stands}
+use Rattle.component.proofs.Complete.{complete}
 use Rattle.operation.specs.Row.{Row, named as names}
 use Rattle.operation.specs.Judge.{judge, pointed}
 use Rattle.operation.specs.Points.{Points, repeated, missing, neither, both}
 use Rattle.operation.specs.Items.{itemOf}
-use Rattle.operation.specs.Demands.{RowFor, keyOf, tally, ReaderRefuses, tells, Joined, done, kept, newcomer, moved, newcomers, placeIn, Truthful, both-accepted, same-missing, same-parameter, Demand3}
+use Rattle.operation.specs.Demands.{RowFor, keyOf, tally, ReaderRefuses, tells, Joined, done, kept, newcomer, moved, newcomers, joined, placeIn, Truthful, both-accepted, same-missing, same-parameter, Demand3}
 use Rattle.operation.specs.Model.{reader, Ours}
 use Rattle.operation.proofs.Marks.{points}
 use Rattle.operation.proofs.Untouched.{untouched}
@@ -63,15 +63,15 @@ module _ {row : Row} where
 module _ (given : ℕ) (t : List ℕ) (enough : 256 ≤ length t) {row : Row} where
   -- a component that is laid out, and its row: what ours reads
   module _ {c : Component} {s : Octets} (o : AreOctets s) (h : LaidOut c s) (e : RowFor (kindOf c) (specifierOf c given) row) where
-    shows : Pairwise (Shows s) (standing c) (parametersOf c)
-    shows = let (l, _, r) = complete-stands (h .laid) (h .within) (h .few) in rw (r .entries) at (r .outlines .shows)
+    shows : Pairwise (Shows s) (standing (h .laid)) (parametersOf c)
+    shows = let (l, _, r) = complete (h .laid) (h .within) (h .few) in rw (r .entries) at (r .outlines .shows)
 
-    all-right : judge row (map itemOf (standing c)) ≡ accepted tt → reader s given t ≡ record { answer = accepted (tells given c row); table = tableWith (standing c) t }
+    all-right : judge row (map itemOf (standing (h .laid))) ≡ accepted tt → reader s given t ≡ record { answer = accepted (tells given c row); table = tableWith (standing (h .laid)) t }
     all-right j =
         let (p, q) = reader-accepts s o given t (record { enough = enough; laid-out = h; has-row = e; fits = fits-read row shows .0 j }) in
         ap₂ (λ a t. record { answer = a; table = t }) p q
 
-    not-right : {n d : ℕ} → judge row (map itemOf (standing c)) ≡ refused n d → reader s given t ≡ record { answer = refused n d; table = t }
+    not-right : {n d : ℕ} → judge row (map itemOf (standing (h .laid))) ≡ refused n d → reader s given t ≡ record { answer = refused n d; table = t }
     not-right j =
         let (p, q) = refused-so s o given t (reader-refuses s o given t (ReaderRefuses.misfit enough h e (row-faulty row _ j))) in
         ap₂ (λ a t. record { answer = a; table = t }) p q
@@ -80,43 +80,36 @@ module _ (given : ℕ) (t : List ℕ) (enough : 256 ≤ length t) {row : Row} wh
       (kind : kindOf d ≡ kindOf c) (id : identifierOf d ≡ identifierOf c) (specifier : specifierOf d given ≡ specifierOf c given)
       (e : RowFor (kindOf c) (specifierOf c given) row) (j : Joined row (parametersOf c) (parametersOf d)) where
     abbrev f : ℕ → ℕ
-    f = placeAt (standing c)
+    f = placeAt (standing (h .laid))
 
     abbrev g : ℕ → ℕ
-    g i = placeAt (standing d) (moved j i)
+    g i = placeAt (standing (k .laid)) (moved j i)
 
     its-row : RowFor (kindOf d) (specifierOf d given) row
     its-row = rw (kind, specifier) e
 
-    older : judge row (map itemOf (standing c)) ≡ pointed f (judge row (indexed (parametersOf c)))
+    older : judge row (map itemOf (standing (h .laid))) ≡ pointed f (judge row (indexed (parametersOf c)))
     older = rw (items (shows o h e) .0) (judged row f (parametersOf c))
 
-    newer : judge row (map itemOf (standing d)) ≡ pointed g (judge row (indexed (parametersOf c)))
-    newer = rw (items (shows b k its-row) .0) (untouched row _ _ (grown (placeAt (standing d)) j) ∙ judged row g (parametersOf c))
+    newer : judge row (map itemOf (standing (k .laid))) ≡ pointed g (judge row (indexed (parametersOf c)))
+    newer = rw (items (shows b k its-row) .0) (untouched row _ _ (grown (placeAt (standing (k .laid))) j) ∙ judged row g (parametersOf c))
 
-    told-more : tells given d row ≡ record {
-      kind = kindOf c;
-      id = idOf (identifierOf c);
-      specifier = specifierOf c given;
-      all = length (parametersOf c) + newcomers j;
-      named = tally (names row) (map keyOf (parametersOf c));
-      other = tally (λ k. not (names row k)) (map keyOf (parametersOf c)) + newcomers j;
-    }
+    told-more : tells given d row ≡ joined (tells given c row) (newcomers j)
     told-more = rw (specifier, kind, id, more-parameters j, as-many-named j, more-others j)
 
     refused-both : (n i : ℕ) → judge row (indexed (parametersOf c)) ≡ refused n i → Points row (indexed (parametersOf c)) n i →
-        Truthful c d j t (record { answer = refused n (if (eqb n 13) i (f i)); table = t }) (record { answer = refused n (if (eqb n 13) i (g i)); table = t })
-    refused-both n i q (repeated x m _ _ _) = rw (same-place (standing c) (x .mark), same-place (standing d) (moved j (x .mark))) (same-parameter 12 (x .mark) (inl refl) (inside (parametersOf c) m))
+        Truthful (h .laid) (k .laid) j t (record { answer = refused n (if (eqb n 13) i (f i)); table = t }) (record { answer = refused n (if (eqb n 13) i (g i)); table = t })
+    refused-both n i q (repeated x m _ _ _) = rw (same-place (standing (h .laid)) (x .mark), same-place (standing (k .laid)) (moved j (x .mark))) (same-parameter 12 (x .mark) (inl refl) (inside (parametersOf c) m))
     refused-both n i q (missing _ _ _) = same-missing _
     refused-both n i q (neither _ _ _ _ _) = same-missing _
-    refused-both n i q (both _ _ _ _ _ x m _) = rw (same-place (standing c) (x .mark), same-place (standing d) (moved j (x .mark))) (same-parameter 14 (x .mark) (inr refl) (inside (parametersOf c) m))
+    refused-both n i q (both _ _ _ _ _ x m _) = rw (same-place (standing (h .laid)) (x .mark), same-place (standing (k .laid)) (moved j (x .mark))) (same-parameter 14 (x .mark) (inr refl) (inside (parametersOf c) m))
 
-    verdict : (a : Answer Unit) → judge row (indexed (parametersOf c)) ≡ a → Truthful c d j t (reader s given t) (reader u given t)
+    verdict : (a : Answer Unit) → judge row (indexed (parametersOf c)) ≡ a → Truthful (h .laid) (k .laid) j t (reader s given t) (reader u given t)
     unfolding pointed
     verdict (accepted _) q =
         let p = all-right o h e (older ∙ ap (pointed f) q) in
         let r = all-right b k its-row (newer ∙ ap (pointed g) q) in
-        rw (p, r ∙ ap (λ x. record { answer = accepted x; table = tableWith (standing d) t }) told-more) (both-accepted (tells given c row))
+        rw (p, r ∙ ap (λ x. record { answer = accepted x; table = tableWith (standing (k .laid)) t }) told-more) (both-accepted (tells given c row))
     verdict (refused n i) q =
         let p = not-right o h e (older ∙ ap (pointed f) q) in
         let r = not-right b k its-row (newer ∙ ap (pointed g) q) in

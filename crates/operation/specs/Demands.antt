@@ -9,7 +9,7 @@ use lib.ListN.{length, getD, take, drop}
 use Rattle.element.specs.Octets.{Octets, AreOctets, if}
 use Rattle.element.specs.Answer.{accepted, refused}
 use Rattle.component.specs.Table.{Entry, idOf, tableWith, idOctets, componentOf, parametersFrom}
-use Rattle.component.specs.Grammar.{Parameter, Component, Invoke, Result, parametersOf, kindOf, identifierOf, specifierOf}
+use Rattle.component.specs.Grammar.{Parameter, Laid, Component, parametersOf, kindOf, identifierOf, specifierOf}
 use Rattle.component.specs.Faults.{Faulty, LaidOut, Typed, Allowed}
 use Rattle.component.specs.Composed.{composed}
 use Rattle.component.specs.Standing.{standing, specifierPlace}
@@ -40,10 +40,10 @@ tally test (k ∷ ks) = if (test k) (1 + tally test ks) (tally test ks)
 pub data ReaderRefuses (s : Octets) (given : ℕ) (t : List ℕ) : (number detail : ℕ) → Type 0 where
   table : length t < 256 → ReaderRefuses s given t 1 0
   fault : {n d : ℕ} → 256 ≤ length t → Faulty n d s → ReaderRefuses s given t n d
-  no-row : {c : Component} → 256 ≤ length t → LaidOut c s → NoRow (kindOf c) (specifierOf c given) →
-      ReaderRefuses s given t 11 (specifierPlace c)
-  misfit : {c : Component} {row : Row} {n d : ℕ} → 256 ≤ length t → LaidOut c s → RowFor (kindOf c) (specifierOf c given) row →
-      RowFault row (map itemOf (standing c)) n d → ReaderRefuses s given t n d
+  no-row : {c : Component} → 256 ≤ length t → (h : LaidOut c s) → NoRow (kindOf c) (specifierOf c given) →
+      ReaderRefuses s given t 11 (specifierPlace (h .laid))
+  misfit : {c : Component} {row : Row} {n d : ℕ} → 256 ≤ length t → (h : LaidOut c s) → RowFor (kindOf c) (specifierOf c given) row →
+      RowFault row (map itemOf (standing (h .laid))) n d → ReaderRefuses s given t n d
 
 -- laid out within the limits, with a row, and as the book's table has it
 pub record Right (s : Octets) (given : ℕ) (t : List ℕ) (c : Component) (row : Row) : Type 0 where
@@ -119,8 +119,8 @@ pub record Demand1 (r : Reader) (w : Writer) : Type 0 where
 pub record Demand2 (r : Reader) (w : Writer) : Type 0 where
   pub reader : (s : Octets) (given : ℕ) (t : List ℕ) {x : Told} → AreOctets s → r s given t .answer ≡ accepted x →
       (c : Component) × (row : Row) × Right s given t c row
-  pub shown : (s : Octets) (given : ℕ) (t : List ℕ) {c : Component} {row : Row} → AreOctets s → Right s given t c row →
-      (r s given t .answer ≡ accepted (tells given c row)) × (r s given t .table ≡ tableWith (standing c) t)
+  pub shown : (s : Octets) (given : ℕ) (t : List ℕ) {c : Component} {row : Row} → AreOctets s → (h : Right s given t c row) →
+      (r s given t .answer ≡ accepted (tells given c row)) × (r s given t .table ≡ tableWith (standing (h .laid-out .laid)) t)
   pub writer : (o : Order) (out : Octets) {n : ℕ} → w o out .answer ≡ accepted n → (row : Row) × Writable o out row
   pub written : (o : Order) (out : Octets) {row : Row} → Writable o out row →
       (w o out .answer ≡ accepted (length (composed (made o)))) × (w o out .output ≡ composed (made o) ++ drop (length (composed (made o))) out)
@@ -160,25 +160,24 @@ placeIn [] i = 0
 placeIn (e ∷ es) zero = e .place
 placeIn (e ∷ es) (suc i) = placeIn es i
 
-abbrev pub with : Component → List Parameter → Component
-with (Invoke id specifier ps) qs = Invoke id specifier qs
-with (Result id ps) qs = Result id qs
+-- the same, with so many other parameters more
+abbrev pub joined : Told → ℕ → Told
+joined a n = record { kind = a .kind; id = a .id; specifier = a .specifier; all = a .all + n; named = a .named; other = a .other + n }
 
--- what is said of the newer component `d`, beside what is said of the older `c`
-pub data Truthful (c d : Component) {row : Row} (j : Joined row (parametersOf c) (parametersOf d)) (t : List ℕ) : Read → Read → Type 0 where
-  both-accepted : (x : Told) → Truthful c d j t (record { answer = accepted x; table = tableWith (standing c) t })
-      (record {
-        answer = accepted (record { kind = x .kind; id = x .id; specifier = x .specifier; all = x .all + newcomers j; named = x .named; other = x .other + newcomers j });
-        table = tableWith (standing d) t;
-      })
-  same-missing : (number : ℕ) → Truthful c d j t (record { answer = refused 13 number; table = t }) (record { answer = refused 13 number; table = t })
-  same-parameter : (n i : ℕ) → (n ≡ 12) ⊎ (n ≡ 14) → i < length (parametersOf c) → Truthful c d j t
-      (record { answer = refused n (placeIn (standing c) i); table = t }) (record { answer = refused n (placeIn (standing d) (moved j i)); table = t })
+-- what is said of the newer component, beside what is said of the older
+pub data Truthful {c d : Component} {s u : Octets} (x : Laid c s) (y : Laid d u) {row : Row} (j : Joined row (parametersOf c) (parametersOf d))
+    (t : List ℕ) : Read → Read → Type 0 where
+  both-accepted : (a : Told) → Truthful x y j t (record { answer = accepted a; table = tableWith (standing x) t })
+      (record { answer = accepted (joined a (newcomers j)); table = tableWith (standing y) t })
+  same-missing : (number : ℕ) → Truthful x y j t (record { answer = refused 13 number; table = t }) (record { answer = refused 13 number; table = t })
+  same-parameter : (n i : ℕ) → (n ≡ 12) ⊎ (n ≡ 14) → i < length (parametersOf c) → Truthful x y j t
+      (record { answer = refused n (placeIn (standing x) i); table = t }) (record { answer = refused n (placeIn (standing y) (moved j i)); table = t })
 
 pub record Demand3 (r : Reader) : Type 0 where
   pub truthful : (given : ℕ) (c d : Component) (s u : Octets) (t : List ℕ) {row : Row} → AreOctets s → AreOctets u → 256 ≤ length t →
-      LaidOut c s → LaidOut d u → kindOf d ≡ kindOf c → identifierOf d ≡ identifierOf c → specifierOf d given ≡ specifierOf c given →
-      RowFor (kindOf c) (specifierOf c given) row → (j : Joined row (parametersOf c) (parametersOf d)) → Truthful c d j t (r s given t) (r u given t)
+      (h : LaidOut c s) (k : LaidOut d u) → kindOf d ≡ kindOf c → identifierOf d ≡ identifierOf c → specifierOf d given ≡ specifierOf c given →
+      RowFor (kindOf c) (specifierOf c given) row → (j : Joined row (parametersOf c) (parametersOf d)) →
+      Truthful (h .laid) (k .laid) j t (r s given t) (r u given t)
 
 pub record Demands (r : Reader) (w : Writer) : Type 0 where
   pub first : Demand1 r w
