@@ -22,26 +22,26 @@ use Rattle.element.proofs.Reading.{most, same}
 use Rattle.component.specs.Layout.{Span, sizeOf, contents, spanOf, wanted, setAt, Head, operation, invoke, result, headOf, parameter, parameterAt, parameters, layoutOf}
 use Rattle.component.specs.Table.{Entry, next}
 use Rattle.component.specs.Grammar.{Element}
-use Rattle.component.specs.Faults.{NoField, NoIdentifier, Unheld, no-field, overrun, Unfound, ended, other, LeftOver, left, InSet, NoSet, NoOperation, Allowed, NoBody, Whole, Faulty}
+use Rattle.component.specs.Faults.{component, NoField, NoIdentifier, Unheld, no-field, overrun, Unfound, ended, other, LeftOver, left, InSet, NoSet, NoOperation, Allowed, NoBody, Whole, Faulty}
 use Rattle.component.proofs.Parts.{length-between, octets-between, take-between, single}
 use Rattle.component.proofs.Ends.{Ends, gives, stops, stopped, so, lift, then, below, at-most, equal, one-of}
 use Rattle.component.proofs.Inside.{Held, Found, Read, read}
 use Rattle.component.proofs.Steps.{element, found-element, code}
 
 -- ---- a fault of octets that are split elsewhere
-no-field-at : {head t u : Octets} {at from : ℕ} → t ≡ head ++ u → from ≡ at + length head → NoField u → Unheld head at t 4 from
+no-field-at : {head t u : Octets} {at from : ℕ} → t ≡ head ++ u → from ≡ at + length head → NoField u → Unheld component head at t 4 from
 no-field-at e l h = rw (e, l) (no-field _ h)
 
-overrun-at : {head t field : Octets} (rest : Octets) {at n : ℕ} → t ≡ head ++ (field ++ rest) → LengthField n field → length rest < n → Unheld head at t 5 at
+overrun-at : {head t field : Octets} (rest : Octets) {at n : ℕ} → t ≡ head ++ (field ++ rest) → LengthField n field → length rest < n → Unheld component head at t 5 at
 overrun-at rest e f h = rw e (overrun rest f h)
 
-ended-at : {octet number at to : ℕ} {t : Octets} → t ≡ [] → to ≡ at → Unfound octet number at t 5 to
+ended-at : {octet number at to : ℕ} {t : Octets} → t ≡ [] → to ≡ at → Unfound component octet number at t 5 to
 ended-at e l = rw (e, l) ended
 
-other-at : {octet number at a : ℕ} {t rest : Octets} → t ≡ a ∷ rest → (a ≡ octet → ⊥) → Unfound octet number at t number at
+other-at : {octet number at a : ℕ} {t rest : Octets} → t ≡ a ∷ rest → (a ≡ octet → ⊥) → Unfound component octet number at t number at
 other-at e h = rw e (other h)
 
-left-at : {head body e t : Octets} (a : ℕ) (rest : Octets) {at to : ℕ} → t ≡ e ++ (a ∷ rest) → to ≡ at + length e → Element head body e → LeftOver head at t 5 to
+left-at : {head body e t : Octets} (a : ℕ) (rest : Octets) {at to : ℕ} → t ≡ e ++ (a ∷ rest) → to ≡ at + length e → Element head body e → LeftOver component head at t 5 to
 left-at a rest p l e = rw (p, l) (left a rest e)
 
 later-at : {room at to number form : ℕ} {head body e t rest : Octets} {n d : ℕ} → t ≡ e ++ rest → to ≡ at + length e → IdentifierField number form head →
@@ -102,12 +102,12 @@ module _ (s : Octets) where
 module _ (s : Octets) (o : AreOctets s) where
   -- ---- one element
   contents-faults : {at from : ℕ} → at ≤ from → from ≤ length s →
-      Ends (Held s from (length s)) (Unheld (between at from s) at (drop at s)) (contents s at from (length s))
+      Ends (Held s from (length s)) (Unheld component (between at from s) at (drop at s)) (contents s at from (length s))
   unfolding contents spanOf
   contents-faults {at} {from} h k = go (lengthAt (between from (length s) s)) refl
     where
       Q : ℕ → ℕ → Type 0
-      Q = Unheld (between at from s) at (drop at s)
+      Q = Unheld component (between at from s) at (drop at s)
 
       go : (l : L.Length) → lengthAt (between from (length s) s) ≡ l → Ends (Held s from (length s)) Q (spanOf at from (length s) l)
       go (LV.Is n k) e =
@@ -124,10 +124,10 @@ module _ (s : Octets) (o : AreOctets s) where
           let z : _≡_ {A = ℕ} 0 1 = cc in
           omega arith)
 
-  wanted-faults : {octet number at : ℕ} → at ≤ length s → Ends (Found s octet at (length s)) (Unfound octet number at (drop at s)) (wanted s octet number at (length s))
+  wanted-faults : {octet number at : ℕ} → at ≤ length s → Ends (Found s octet at (length s)) (Unfound component octet number at (drop at s)) (wanted s octet number at (length s))
   unfolding wanted
   wanted-faults {octet} {number} {at} h =
-      let Q = Unfound octet number at (drop at s) in
+      let Q = Unfound component octet number at (drop at s) in
       below Q (λ k. ended-at (drop-of-length-le s k) (omega arith)) λ k.
       equal Q (other-at (drop-cons s at 0 k)) λ e.
       so (lift (λ n d f. Unfound.unheld (rw (single s at k, e) at f)) (contents-faults {at = at} {from = at + 1} (omega arith) (omega arith)))

@@ -23,7 +23,7 @@ use Rattle.element.proofs.LengthLaws as Length
 use Rattle.element.proofs.IdentifierLaws as Identifier
 use Rattle.component.specs.Layout.{Span, sizeOf, contents, spanOf, wanted, setAt, Head, operation, invoke, result, headOf, parameter, parameterAt, parameters, Layout, layoutOf}
 use Rattle.component.specs.Grammar.{Element, laid}
-use Rattle.component.specs.Faults.{NoField, NoIdentifier, Unheld, no-field, overrun, Unfound, ended, other, left, InSet, NoSet, NoOperation, NoBody, Whole, Faulty}
+use Rattle.component.specs.Faults.{component, NoField, NoIdentifier, Unheld, no-field, overrun, Unfound, ended, other, left, InSet, NoSet, NoOperation, NoBody, Whole, Faulty}
 use Rattle.component.specs.Faults as F
 use Rattle.component.proofs.Parts.{octets-between}
 use Rattle.component.proofs.Faulting.{to-end}
@@ -107,7 +107,7 @@ module _ (s : Octets) where
   walk : Head → Answer Layout
   walk h = parameters 64 s (h .set .start) (h .set .end) >>= λ es. accepted (record { head = h; entries = es })
 
-begun : {head t : Octets} {at n d : ℕ} → Unheld head at t n d → (u : Octets) × (t ≡ head ++ u)
+begun : {head t : Octets} {at n d : ℕ} → Unheld component head at t n d → (u : Octets) × (t ≡ head ++ u)
 begun (no-field u h) = (u, refl)
 begun (overrun {field = field} rest f h) = (field ++ rest, refl)
 
@@ -119,7 +119,7 @@ unfolding shortest
 code family specifier = laid (shortest 2) (short 2 (omega arith))
 
 module _ (s : Octets) (o : AreOctets s) where
-  contents-refused : {head t : Octets} {at n d : ℕ} → Unheld head at t n d → Rest s at t → contents s at (at + length head) (length s) ≡ refused n d
+  contents-refused : {head t : Octets} {at n d : ℕ} → Unheld component head at t n d → Rest s at t → contents s at (at + length head) (length s) ≡ refused n d
   unfolding contents spanOf
   contents-refused {head} (no-field u h) r = let b = behind s head r in rw (seen s b, wrong (at-octets s b o) h)
   contents-refused {head} {at = at} (overrun {n} {field} rest f h) r =
@@ -127,7 +127,7 @@ module _ (s : Octets) (o : AreOctets s) where
       let c = behind s field b in
       rw (seen s b, Length.complete f rest, lt-leb (at + length head + length field + n) (length s) (omega (arith, c .ends)))
 
-  wanted-refused : {octet number at n d : ℕ} {t : Octets} → Unfound octet number at t n d → Rest s at t → wanted s octet number at (length s) ≡ refused n d
+  wanted-refused : {octet number at n d : ℕ} {t : Octets} → Unfound component octet number at t n d → Rest s at t → wanted s octet number at (length s) ≡ refused n d
   unfolding wanted
   wanted-refused {at = at} ended r = let e : at ≡ length s = omega (arith, r .ends) in rw (le-ltb at (length s) (omega arith)) (ap (λ k. refused 5 k) (sym e))
   wanted-refused {at = at} (other {a} h) r = rw (lt-ltb at (length s) (omega (arith, r .ends)), first s r, ne-eqb a _ h)

@@ -10,7 +10,13 @@ use Rattle.element.specs.Length.{LengthField}
 use Rattle.element.specs.Identifier.{IdentifierField}
 use Rattle.component.specs.Grammar.{Element, Component, Laid, parametersOf}
 
--- ---- one element
+-- ---- one element, under whatever numbers its faults have
+pub record Numbers : Type 0 where
+  pub field : ℕ  -- no length field
+  pub extent : ℕ  -- contents run past the parent
+  pub end : ℕ  -- an element is wanted where the parent has ended
+  pub rest : ℕ  -- octets are left over
+
 -- no length field begins what is left of the parent, and no identifier does
 abbrev pub NoField : Octets → Type 0
 NoField s = (n : ℕ) (field rest : Octets) → LengthField n field → s ≡ field ++ rest → ⊥
@@ -18,39 +24,44 @@ NoField s = (n : ℕ) (field rest : Octets) → LengthField n field → s ≡ fi
 abbrev pub NoIdentifier : Octets → Type 0
 NoIdentifier s = (number form : ℕ) (head rest : Octets) → IdentifierField number form head → s ≡ head ++ rest → ⊥
 
--- 4, 5: an element with this identifier stands at `at`, and its length field is none, or says more than the parent has
-pub data Unheld (head : Octets) (at : ℕ) : Octets → (number detail : ℕ) → Type 0 where
-  no-field : (s : Octets) → NoField s → Unheld head at (head ++ s) 4 (at + length head)
-  overrun : {n : ℕ} {field : Octets} (rest : Octets) → LengthField n field → length rest < n → Unheld head at (head ++ (field ++ rest)) 5 at
+-- an element with this identifier stands at `at`, and its length field is none, or says more than the parent has
+pub data Unheld (ns : Numbers) (head : Octets) (at : ℕ) : Octets → (number detail : ℕ) → Type 0 where
+  no-field : (s : Octets) → NoField s → Unheld ns head at (head ++ s) (ns .field) (at + length head)
+  overrun : {n : ℕ} {field : Octets} (rest : Octets) → LengthField n field → length rest < n →
+      Unheld ns head at (head ++ (field ++ rest)) (ns .extent) at
 
--- 5 and `number`: an element of this one octet is wanted at `at`; the parent has ended, another octet stands there, or no contents
-pub data Unfound (octet number at : ℕ) : Octets → (number detail : ℕ) → Type 0 where
-  ended : Unfound octet number at [] 5 at
-  other : {a : ℕ} {s : Octets} → (a ≡ octet → ⊥) → Unfound octet number at (a ∷ s) number at
-  unheld : {s : Octets} {n d : ℕ} → Unheld (octet ∷ []) at s n d → Unfound octet number at s n d
+-- an element of this one octet is wanted at `at`; the parent has ended, another octet stands there (`number`), or no contents
+pub data Unfound (ns : Numbers) (octet number at : ℕ) : Octets → (number detail : ℕ) → Type 0 where
+  ended : Unfound ns octet number at [] (ns .end) at
+  other : {a : ℕ} {s : Octets} → (a ≡ octet → ⊥) → Unfound ns octet number at (a ∷ s) number at
+  unheld : {s : Octets} {n d : ℕ} → Unheld ns (octet ∷ []) at s n d → Unfound ns octet number at s n d
 
--- 5: the element has to end where its parent ends, and octets are left over
-pub data LeftOver (head : Octets) (at : ℕ) : Octets → (number detail : ℕ) → Type 0 where
-  left : {body e : Octets} (a : ℕ) (rest : Octets) → Element head body e → LeftOver head at (e ++ (a ∷ rest)) 5 (at + length e)
+-- the element has to end where its parent ends, and octets are left over
+pub data LeftOver (ns : Numbers) (head : Octets) (at : ℕ) : Octets → (number detail : ℕ) → Type 0 where
+  left : {body e : Octets} (a : ℕ) (rest : Octets) → Element head body e → LeftOver ns head at (e ++ (a ∷ rest)) (ns .rest) (at + length e)
+
+-- those of a component
+abbrev pub component : Numbers
+component = record { field = 4; extent = 5; end = 5; rest = 5 }
 
 -- ---- the parameters, of which `room` more are allowed: 10, 9, and 4 and 5 of each
 pub data InSet : (room at : ℕ) → Octets → (number detail : ℕ) → Type 0 where
   one-too-many : {at a : ℕ} {s : Octets} → InSet zero at (a ∷ s) 10 at
   no-identifier : {room at a : ℕ} {s : Octets} → NoIdentifier (a ∷ s) → InSet (suc room) at (a ∷ s) 9 at
-  unheld : {room at number form : ℕ} {head s : Octets} {n d : ℕ} → IdentifierField number form head → Unheld head at s n d → InSet (suc room) at s n d
+  unheld : {room at number form : ℕ} {head s : Octets} {n d : ℕ} → IdentifierField number form head → Unheld component head at s n d → InSet (suc room) at s n d
   later : {room at number form : ℕ} {head body e rest : Octets} {n d : ℕ} → IdentifierField number form head → Element head body e
       → InSet room (at + length e) rest n d → InSet (suc room) at (e ++ rest) n d
 
 -- ---- the set: 8, and 5 where it ends early
 pub data NoSet (at : ℕ) : Octets → (number detail : ℕ) → Type 0 where
-  unfound : {s : Octets} {n d : ℕ} → Unfound 0xF2 8 at s n d → NoSet at s n d
-  left-over : {s : Octets} {n d : ℕ} → LeftOver (0xF2 ∷ []) at s n d → NoSet at s n d
+  unfound : {s : Octets} {n d : ℕ} → Unfound component 0xF2 8 at s n d → NoSet at s n d
+  left-over : {s : Octets} {n d : ℕ} → LeftOver component (0xF2 ∷ []) at s n d → NoSet at s n d
   inside : {field set : Octets} {n d : ℕ} → LengthField (length set) field → InSet 64 (at + (1 + length field)) set n d
       → NoSet at (0xF2 ∷ (field ++ set)) n d
 
 -- ---- the operation code and what stands behind it: 7 for another octet, another length, another family
 pub data NoOperation (at : ℕ) : Octets → (number detail : ℕ) → Type 0 where
-  unfound : {s : Octets} {n d : ℕ} → Unfound 0xD1 7 at s n d → NoOperation at s n d
+  unfound : {s : Octets} {n d : ℕ} → Unfound component 0xD1 7 at s n d → NoOperation at s n d
   sized : {body e : Octets} (rest : Octets) → Element (0xD1 ∷ []) body e → (length body ≡ 2 → ⊥) → NoOperation at (e ++ rest) 7 at
   family : {a specifier : ℕ} {rest : Octets} → (a ≡ 9 → ⊥) → NoOperation at (0xD1 ∷ 2 ∷ a ∷ specifier ∷ rest) 7 at
   behind : {specifier : ℕ} {rest : Octets} {n d : ℕ} → NoSet (at + 4) rest n d → NoOperation at (0xD1 ∷ 2 ∷ 9 ∷ specifier ∷ rest) n d
@@ -60,7 +71,7 @@ abbrev pub Allowed : (kind size : ℕ) → Type 0
 Allowed kind size = ((kind ≡ 0xE9) × (size ≤ 2)) ⊎ ((kind ≡ 0xEA) × (size ≡ 1))
 
 pub data NoBody (kind at : ℕ) : Octets → (number detail : ℕ) → Type 0 where
-  unfound : {s : Octets} {n d : ℕ} → Unfound 0xCF 6 at s n d → NoBody kind at s n d
+  unfound : {s : Octets} {n d : ℕ} → Unfound component 0xCF 6 at s n d → NoBody kind at s n d
   sized : {id i : Octets} (rest : Octets) → Element (0xCF ∷ []) id i → (Allowed kind (length id) → ⊥) → NoBody kind at (i ++ rest) 6 at
   invoked : {id i rest : Octets} {n d : ℕ} → kind ≡ 0xE9 → Element (0xCF ∷ []) id i → length id ≤ 2 → NoOperation (at + length i) rest n d
       → NoBody kind at (i ++ rest) n d
@@ -72,8 +83,8 @@ abbrev pub Typed : ℕ → Type 0
 Typed kind = (kind ≡ 0xE9) ⊎ (kind ≡ 0xEA)
 
 pub data Whole (kind : ℕ) : Octets → (number detail : ℕ) → Type 0 where
-  unheld : {s : Octets} {n d : ℕ} → Unheld (kind ∷ []) 0 s n d → Whole kind s n d
-  left-over : {s : Octets} {n d : ℕ} → LeftOver (kind ∷ []) 0 s n d → Whole kind s n d
+  unheld : {s : Octets} {n d : ℕ} → Unheld component (kind ∷ []) 0 s n d → Whole kind s n d
+  left-over : {s : Octets} {n d : ℕ} → LeftOver component (kind ∷ []) 0 s n d → Whole kind s n d
   inside : {field body : Octets} {n d : ℕ} → LengthField (length body) field → NoBody kind (1 + length field) body n d
       → Whole kind (kind ∷ (field ++ body)) n d
 
