@@ -11,7 +11,6 @@ use native.Mathlib.Nat.{add-zero, zero-add}
 use native.Mathlib.Omega.{arith}
 use Rattle.element.specs.Octets.{Octets, if, between}
 use Rattle.element.specs.Answer.{Answer, accepted, _>>=_}
-use Rattle.element.specs.Length.{short, shortest}
 use Rattle.element.specs.Identifier.{IdentifierField}
 use Rattle.element.proofs.LengthLaws as L
 use Rattle.element.proofs.IdentifierLaws as I
@@ -160,20 +159,15 @@ module _ (s : Octets) where
       rw (first w e, lt-ltb 0 (length s) (omega (arith, longer w)), le-leb (length s) 4096, t)
       (then (rw (zero-add (length s)) at (contents-of w e (length s) (omega arith))) λ x i. rw (eq-eqb (x .end) (length s) (omega arith)) (k x i))
 
-code : (specifier : ℕ) → Element (0xD1 ∷ []) (9 ∷ specifier ∷ []) (0xD1 ∷ 2 ∷ 9 ∷ specifier ∷ [])
-unfolding shortest
-code specifier = laid (shortest 2) (short 2 (omega arith))
-
 head-of : {c : Component} {s : Octets} (x : Laid c s) → length s ≤ 4096 → Accepts (Heads s x) (headOf s)
 unfolding invoke operation result standing specifierPlace
-head-of (invoked id specifier ps i f set s a b w r v x) h = whole s x refl h λ y j.
-    let o = 0xD1 ∷ 2 ∷ 9 ∷ specifier ∷ [] in
+head-of (invoked id specifier ps i o f set s a b w c r v x) h = whole s x refl h λ y j.
     let n = length-append i o in
     let q = length-append (i ++ o) f in
     let g = front s (i ++ o) f (j .starts) in
     then (wanted-of s w (front s i o g) 6 (y .end) (omega arith)) λ z l.
     rw (le-leb (z .end - z .start) 2 (omega arith))
-    (then (wanted-of s (code specifier) (rw (l .ends) at (back s i o g)) 7 (y .end) (omega arith)) λ d m.
+    (then (wanted-of s c (rw (l .ends) at (back s i o g)) 7 (y .end) (omega arith)) λ d m.
     let e : y .start + length (i ++ o) ≡ d .end = omega arith in
     rw (eq-eqb (d .end - d .start) 2 (omega arith), eq-eqb (getD s (d .start) 0) 9 (rw add-zero at (shown s (m .starts) 0)))
     (then (setAt-of s v (rw e at (back s (i ++ o) f (j .starts))) (y .end) (omega arith)) λ u p.

@@ -34,10 +34,11 @@ unfolding composed
 composes {c = Invoke id specifier ps} h =
     let i = element (0xCF ∷ []) id in
     let f = element (0xF2 ∷ []) (setOf ps) in
-    let k = simp length-append at (within (0xE9 ∷ []) (i ++ (0xD1 ∷ 2 ∷ 9 ∷ specifier ∷ []) ++ f)) in
+    let o = element (0xD1 ∷ []) (9 ∷ specifier ∷ []) in
+    let k = simp length-append at (within (0xE9 ∷ []) (i ++ o ++ f)) in
     let l = within (0xF2 ∷ []) (setOf ps) in
-    invoked id specifier ps i f (setOf ps) _ (h .typed .0) (h .typed .1)
-    (element-of _ id (omega arith)) (set-of ps (h .identified) (omega arith)) (element-of _ (setOf ps) (omega arith)) (element-of _ _ (h .size))
+    invoked id specifier ps i o f (setOf ps) _ (h .typed .0) (h .typed .1)
+    (element-of _ id (omega arith)) (element-of _ _ (omega arith)) (set-of ps (h .identified) (omega arith)) (element-of _ (setOf ps) (omega arith)) (element-of _ _ (h .size))
 composes {c = Result id ps} h =
     let i = element (0xCF ∷ []) id in
     let f = element (0xF2 ∷ []) (setOf ps) in
@@ -61,7 +62,7 @@ is-set (more p n w r) = rw (is-element w, is-identifier n, is-set r)
 
 pub is-composed : {c : Component} {s : Octets} → Laid c s → s ≡ composed c
 unfolding composed
-is-composed (invoked id specifier ps i f set s a b w r v x) = rw (is-element x, is-element w, is-element v, is-set r)
+is-composed (invoked id specifier ps i o f set s a b w n r v x) = rw (is-element x, is-element w, is-element n, is-element v, is-set r)
 is-composed (answered id ps i f set s a w r v x) = rw (is-element x, is-element w, is-element v, is-set r)
 
 identified : {ps : List Parameter} {s : Octets} → Parameters ps s → Identified ps
@@ -69,7 +70,7 @@ identified none = tt
 identified (more p n w r) = (I.bounded n .0, I.bounded n .1, identified r)
 
 parts : {c : Component} {s : Octets} → Laid c s → Typed c × Identified (parametersOf c)
-parts (invoked id specifier ps i f set s a b w r v x) = ((a, b), identified r)
+parts (invoked id specifier ps i o f set s a b w n r v x) = ((a, b), identified r)
 parts (answered id ps i f set s a w r v x) = (a, identified r)
 
 pub laid-composable : {c : Component} {s : Octets} → Laid c s → length s ≤ 4096 → Composable c

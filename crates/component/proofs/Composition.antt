@@ -107,7 +107,7 @@ module _ (kind id : ℕ) (ps : List Parameter) (h : octetsNeeded kind id ps ≤ 
 
 module _ (kind : ℕ) (id : D.Id) (specifier : ℕ) (ps : List Parameter) where
   as-invoke : kind ≡ 0xE9 → composed (componentOf kind id specifier ps) ≡ element (kind ∷ []) (bodyOf kind id specifier ps)
-  unfolding componentOf composed bodyOf operationOctets
+  unfolding componentOf composed bodyOf operationOctets element shortest
   as-invoke e = rw e refl
 
   as-result : kind ≡ 0xEA → composed (componentOf kind id specifier ps) ≡ element (kind ∷ []) (bodyOf kind id specifier ps)

@@ -1,7 +1,7 @@
 -- Octets lay out one component, and a component has one layout.
 use Prim.Native.Nat.{ℕ}
 use mathlib.Core.Path.{_≡_, refl, sym, ap, _∙_}
-use mathlib.Core.List.{List, [], _∷_, _++_, append-assoc}
+use mathlib.Core.List.{List, [], _++_, append-assoc}
 use lib.ListN.{length, length-append}
 use lib.Seq.{take-append-seam, drop-append-seam}
 use native.Mathlib.Omega.{arith}
@@ -52,11 +52,10 @@ same-parameters (more p {rest = x} n w r) (more q {rest = y} m v u) e =
     cc
 
 pub functional : {c d : Component} {s : Octets} → Laid c s → Laid d s → c ≡ d
-functional (invoked id o ps i f set s a b w r v x) (invoked id′ o′ ps′ i′ f′ set′ t a′ b′ w′ r′ v′ x′) =
+functional (invoked id o ps i c f set s a b w n r v x) (invoked id′ o′ ps′ i′ c′ f′ set′ t a′ b′ w′ n′ r′ v′ x′) =
     let (e, _) = element-unique x x′ [] [] refl in
-    let (p, k) = element-unique w w′ (0xD1 ∷ 2 ∷ 9 ∷ o ∷ f) (0xD1 ∷ 2 ∷ 9 ∷ o′ ∷ f′) (simp append-assoc at e) in
-    let q : o ≡ o′ = cc in
-    let g : f ≡ f′ = cc in
+    let (p, k) = element-unique w w′ (c ++ f) (c′ ++ f′) (simp append-assoc at e) in
+    let (q, g) = element-unique n n′ f f′ k in
     let (h, _) = element-unique v v′ [] [] (rw g) in
     let l = same-parameters r r′ h in
     cc
@@ -66,9 +65,9 @@ functional (answered id ps i f set s a w r v x) (answered id′ ps′ i′ f′ 
     let (h, _) = element-unique v v′ [] [] (rw g) in
     let l = same-parameters r r′ h in
     cc
-functional (invoked id o ps i f set s a b w r v x) (answered id′ ps′ i′ f′ set′ t a′ w′ r′ v′ x′) =
+functional (invoked id o ps i c f set s a b w n r v x) (answered id′ ps′ i′ f′ set′ t a′ w′ r′ v′ x′) =
     let z = sym (first-octet x []) ∙ first-octet x′ [] in absurd (omega arith)
-functional (answered id ps i f set s a w r v x) (invoked id′ o′ ps′ i′ f′ set′ t a′ b′ w′ r′ v′ x′) =
+functional (answered id ps i f set s a w r v x) (invoked id′ o′ ps′ i′ c′ f′ set′ t a′ b′ w′ n′ r′ v′ x′) =
     let z = sym (first-octet x []) ∙ first-octet x′ [] in absurd (omega arith)
 
 pub one-layout : {c : Component} {s t : Octets} → Laid c s → Laid c t → s ≡ t

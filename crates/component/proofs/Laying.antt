@@ -130,7 +130,7 @@ numbers-length (e ∷ es) = omega (arith, numbers-length es)
 
 module _ (s : Octets) {l : Layout} (e : layoutOf s ≡ accepted l) where
   pub few : AreOctets s → length (l .entries) ≤ 64
-  few o = let (f, p) = parts s e in given (parameters-ends s o 64 (omega (arith, given (head-ends s o) f .last))) p .count
+  few o = let (f, p) = parts s e in given (parameters-ends s o 64) p .count
 
   pub sheet-shows : (z : List ℕ) → 256 ≤ length z → sheetAfter s z ≡ tableWith (l .entries) z
   unfolding sheetAfter behind

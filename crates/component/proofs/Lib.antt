@@ -2,9 +2,7 @@ pub mod Parts
 pub mod Fitting
 pub mod Ends
 pub mod Inside
-pub mod Steps
 pub mod Walk
-pub mod Faulting
 pub mod Refusing
 pub mod Walking
 pub mod Laying
@@ -12,6 +10,7 @@ pub mod Opening
 pub mod Sound
 pub mod Composes
 pub mod Complete
+pub mod Deciding
 pub mod OneFault
 pub mod Decoding
 pub mod Putting
@@ -27,6 +26,5 @@ pub mod Taken
 pub mod Sizes
 pub mod Entries
 pub mod Making
-pub mod Growing
 pub mod Outcomes
 pub mod Parent

@@ -3,7 +3,7 @@ use Prim.Native.Nat.{ℕ, _+_, _-_, _<_, _≤_}
 use mathlib.Core.Path.{_≡_}
 use mathlib.Core.List.{[], _∷_, _++_}
 use lib.ListN.{length, take, drop, getD, length-take, length-drop, List·getD-eq-default}
-use lib.Seq.{take-add, take-take, take-length, drop-cons, drop-drop, getD-take, getD-drop}
+use lib.Seq.{take-all, take-add, take-take, take-length, drop-cons, drop-drop, getD-take, getD-drop}
 use native.Mathlib.Decide.{decLt}
 use native.Mathlib.Omega.{arith}
 use Rattle.element.specs.Octets.{Octets, AreOctets, between}
@@ -20,6 +20,9 @@ module _ (s : Octets) where
 
   pub whole : between 0 (length s) s ≡ s
   whole = let e : length s - 0 ≡ length s = omega arith in rw (e, take-length)
+
+  pub to-end : (a : ℕ) → between a (length s) s ≡ drop a s
+  to-end a = take-all (length s - a) (drop a s) (simp length-drop (omega arith))
 
   pub empty : (a b : ℕ) → b ≤ a → between a b s ≡ []
   empty a b h = let e : b - a ≡ 0 = omega arith in rw e

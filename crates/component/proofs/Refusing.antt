@@ -1,9 +1,9 @@
 -- What has a fault is refused with its number and detail.
 use Prim.Native.Nat.{ℕ, suc, _+_, _-_, _<_, _≤_}
 use mathlib.Core.Path.{_≡_, refl, sym, ap, _∙_}
-use mathlib.Core.Bool.{true, _||_}
+use mathlib.Core.Bool.{true, false, _||_}
 use mathlib.Core.List.{[], _∷_, _++_, append-assoc, append-nil}
-use mathlib.Core.Logic.{inl, inr}
+use mathlib.Core.Logic.{_⊎_, inl, inr, ⊎-elim}
 use lib.ListN.{length, take, drop, getD, length-append, take-append-drop}
 use lib.Seq.{drop-drop, drop-append-seam, getD-drop}
 use lib.Dec.{eqb}
@@ -16,8 +16,8 @@ use Rattle.element.specs.declared.Length.the-variants as LV
 use Rattle.element.specs.declared.Identifier as I
 use Rattle.element.specs.declared.Identifier.the-variants as IV
 use Rattle.element.specs.Octets.{Octets, AreOctets, between}
-use Rattle.element.specs.Answer.{Answer, accepted, refused, _>>=_}
-use Rattle.element.specs.Length.{short, shortest}
+use Rattle.element.specs.Answer.{Answer, accepted, refused, _>>=_, _>>_}
+use Rattle.element.specs.Length.{short}
 use Rattle.element.specs.Decoded.{lengthAt, identifierAt}
 use Rattle.element.proofs.LengthLaws as Length
 use Rattle.element.proofs.IdentifierLaws as Identifier
@@ -25,8 +25,7 @@ use Rattle.component.specs.Layout.{Span, sizeOf, contents, spanOf, wante
 use Rattle.component.specs.Grammar.{Element, laid}
 use Rattle.component.specs.Faults.{component, NoField, NoIdentifier, Unheld, no-field, overrun, Unfound, ended, other, left, InSet, NoSet, NoOperation, NoBody, Whole, Faulty}
 use Rattle.component.specs.Faults as F
-use Rattle.component.proofs.Parts.{octets-between}
-use Rattle.component.proofs.Faulting.{to-end}
+use Rattle.component.proofs.Parts.{octets-between, to-end}
 
 -- ---- no field and no identifier are read where none begins
 wrong : {s : Octets} → AreOctets s → NoField s → lengthAt s ≡ LV.Wrong
@@ -114,10 +113,6 @@ begun (overrun {field = field} rest f h) = (field ++ rest, refl)
 begins : {head body e : Octets} → Element head body e → (rest : Octets) → (u : Octets) × (e ++ rest ≡ head ++ u)
 begins {head} {body} (laid field f) rest = (field ++ (body ++ rest), simp append-assoc)
 
-code : (family specifier : ℕ) → Element (0xD1 ∷ []) (family ∷ specifier ∷ []) (0xD1 ∷ 2 ∷ family ∷ specifier ∷ [])
-unfolding shortest
-code family specifier = laid (shortest 2) (short 2 (omega arith))
-
 module _ (s : Octets) (o : AreOctets s) where
   contents-refused : {head t : Octets} {at n d : ℕ} → Unheld component head at t n d → Rest s at t → contents s at (at + length head) (length s) ≡ refused n d
   unfolding contents spanOf
@@ -178,20 +173,24 @@ module _ (s : Octets) (o : AreOctets s) where
         let k = parameters-refused (rw e at i) (again s (append-nil set) (b .starts)) in
         rw (g, eq-eqb (x .end) (length s) h, h, k)
 
+  not-code : {start size : ℕ} (body rest : Octets) → Rest s start (body ++ rest) → size ≡ length body →
+      ((specifier : ℕ) → body ≡ 9 ∷ specifier ∷ [] → ⊥) → (eqb size 2 ≡ false) ⊎ ((eqb size 2 ≡ true) × (eqb (getD s start 0) 9 ≡ false))
+  not-code {size = size} [] rest r e h = inl (ne-eqb size 2 (omega arith))
+  not-code {size = size} (a ∷ []) rest r e h = inl (ne-eqb size 2 (omega arith))
+  not-code {size = size} (a ∷ b ∷ []) rest r e h = inr (eq-eqb size 2 e, rw (first s r) (ne-eqb a 9 (λ nine. h b (rw nine))))
+  not-code {size = size} (a ∷ b ∷ c ∷ body) rest r e h = inl (ne-eqb size 2 (omega arith))
+
   operation-refused : (i : Span) {t : Octets} {n d : ℕ} → NoOperation (i .end) t n d → Rest s (i .end) t → (operation s i (length s) >>= walk s) ≡ refused n d
   unfolding operation
   operation-refused i (NoOperation.unfound f) r = rw (wanted-refused f r)
-  operation-refused i (NoOperation.sized {body} {e} rest l h) r =
+  operation-refused i (NoOperation.another {body} rest l h) r =
       let (x, g, b) = wanted-found s 7 l r in
-      rw (g, ne-eqb (sizeOf x) 2 (λ k. h (sym (b .size) ∙ k)))
-  operation-refused i (NoOperation.family {a} {specifier} {rest} h) r =
-      let (x, g, b) = wanted-found s 7 {rest = rest} (code a specifier) r in
-      rw (g, eq-eqb (sizeOf x) 2 (b .size), first s (b .starts), ne-eqb a 9 h)
-  operation-refused i (NoOperation.behind {specifier} {rest} f) r =
-      let (x, g, b) = wanted-found s 7 {rest = rest} (code 9 specifier) r in
-      let e : i .end + 4 ≡ x .end = sym (b .ends) in
-      rw (g, eq-eqb (sizeOf x) 2 (b .size), first s (b .starts))
-      (set-refused 0xE9 i (x .start + 1) (rw e at f) (moved s e (behind s (0xD1 ∷ 2 ∷ 9 ∷ specifier ∷ []) r)))
+      ⊎-elim (λ (p : eqb (sizeOf x) 2 ≡ false). rw (g, p)) (λ (p : (eqb (sizeOf x) 2 ≡ true) × (eqb (getD s (x .start) 0) 9 ≡ false)). rw (g, p .0, p .1))
+      (not-code body rest (b .starts) (b .size) h)
+  operation-refused i (NoOperation.behind {e = e} {rest} l f) r =
+      let (x, g, b) = wanted-found s 7 l r in
+      let q : i .end + length e ≡ x .end = sym (b .ends) in
+      rw (g, eq-eqb (sizeOf x) 2 (b .size), first s (b .starts)) (set-refused 0xE9 i (x .start + 1) (rw q at f) (moved s q (behind s e r)))
 
   -- the contents of a component
   module _ (x : Span) (last : x .end ≡ length s) where

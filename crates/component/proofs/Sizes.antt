@@ -37,14 +37,19 @@ same-set (p ∷ ps) h =
     let f = rw (I.size (p .number) (p .form)) at (same-element i (p .content) (λ _. refl)) in
     omega (arith, f (omega arith), same-set ps (omega arith))
 
+coded : (specifier : ℕ) → length (element (0xD1 ∷ []) (9 ∷ specifier ∷ [])) ≡ 4
+unfolding element shortest
+coded specifier = refl
+
 pub sized : (c : Component) → Same (length (composed c)) (octetsNeeded (kindOf c) (length (identifierOf c)) (parametersOf c))
 unfolding composed octetsNeeded bodySize
 sized (Invoke id specifier ps) = same-element (0xE9 ∷ []) _ λ h.
     let i = element (0xCF ∷ []) id in
     let f = element (0xF2 ∷ []) (setOf ps) in
-    let k = length-append (i ++ (0xD1 ∷ 2 ∷ 9 ∷ specifier ∷ [])) f in
-    let l = length-append i (0xD1 ∷ 2 ∷ 9 ∷ specifier ∷ []) in
-    omega (arith, same-element (0xCF ∷ []) id (λ _. refl) (omega arith), same-element (0xF2 ∷ []) (setOf ps) (same-set ps) (omega arith))
+    let o = element (0xD1 ∷ []) (9 ∷ specifier ∷ []) in
+    let k = length-append (i ++ o) f in
+    let l = length-append i o in
+    omega (arith, coded specifier, same-element (0xCF ∷ []) id (λ _. refl) (omega arith), same-element (0xF2 ∷ []) (setOf ps) (same-set ps) (omega arith))
 sized (Result id ps) = same-element (0xEA ∷ []) _ λ h.
     let i = element (0xCF ∷ []) id in
     let f = element (0xF2 ∷ []) (setOf ps) in

@@ -59,12 +59,13 @@ pub data NoSet (at : ℕ) : Octets → (number detail : ℕ) → Type 0 where
   inside : {field set : Octets} {n d : ℕ} → LengthField (length set) field → InSet 64 (at + (1 + length field)) set n d
       → NoSet at (0xF2 ∷ (field ++ set)) n d
 
--- ---- the operation code and what stands behind it: 7 for another octet, another length, another family
+-- ---- the operation code and what stands behind it: 7 for another octet, and for contents that are not the family 9 and a specifier
 pub data NoOperation (at : ℕ) : Octets → (number detail : ℕ) → Type 0 where
   unfound : {s : Octets} {n d : ℕ} → Unfound component 0xD1 7 at s n d → NoOperation at s n d
-  sized : {body e : Octets} (rest : Octets) → Element (0xD1 ∷ []) body e → (length body ≡ 2 → ⊥) → NoOperation at (e ++ rest) 7 at
-  family : {a specifier : ℕ} {rest : Octets} → (a ≡ 9 → ⊥) → NoOperation at (0xD1 ∷ 2 ∷ a ∷ specifier ∷ rest) 7 at
-  behind : {specifier : ℕ} {rest : Octets} {n d : ℕ} → NoSet (at + 4) rest n d → NoOperation at (0xD1 ∷ 2 ∷ 9 ∷ specifier ∷ rest) n d
+  another : {body e : Octets} (rest : Octets) → Element (0xD1 ∷ []) body e → ((specifier : ℕ) → body ≡ 9 ∷ specifier ∷ [] → ⊥)
+      → NoOperation at (e ++ rest) 7 at
+  behind : {specifier : ℕ} {e rest : Octets} {n d : ℕ} → Element (0xD1 ∷ []) (9 ∷ specifier ∷ []) e → NoSet (at + length e) rest n d
+      → NoOperation at (e ++ rest) n d
 
 -- ---- the component ID and what stands behind it, in a component of this type: 6 for another octet, or a length not allowed
 abbrev pub Allowed : (kind size : ℕ) → Type 0

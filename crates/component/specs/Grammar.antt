@@ -26,9 +26,9 @@ pub data Component : Type 0 where
   Result : (id : Octets) (ps : List Parameter) → Component
 
 pub data Laid : Component → Octets → Type 0 where
-  invoked : (id : Octets) (specifier : ℕ) (ps : List Parameter) (i f set whole : Octets) → length id ≤ 2 → specifier < 256
-      → Element (0xCF ∷ []) id i → Parameters ps set → Element (0xF2 ∷ []) set f
-      → Element (0xE9 ∷ []) (i ++ (0xD1 ∷ 2 ∷ 9 ∷ specifier ∷ []) ++ f) whole → Laid (Invoke id specifier ps) whole
+  invoked : (id : Octets) (specifier : ℕ) (ps : List Parameter) (i o f set whole : Octets) → length id ≤ 2 → specifier < 256
+      → Element (0xCF ∷ []) id i → Element (0xD1 ∷ []) (9 ∷ specifier ∷ []) o → Parameters ps set → Element (0xF2 ∷ []) set f
+      → Element (0xE9 ∷ []) (i ++ o ++ f) whole → Laid (Invoke id specifier ps) whole
   answered : (id : Octets) (ps : List Parameter) (i f set whole : Octets) → length id ≡ 1
       → Element (0xCF ∷ []) id i → Parameters ps set → Element (0xF2 ∷ []) set f
       → Element (0xEA ∷ []) (i ++ f) whole → Laid (Result id ps) whole

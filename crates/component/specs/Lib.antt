@@ -7,7 +7,6 @@ pub mod Needed
 pub mod Part
 pub mod Layout
 pub mod Shown
-pub mod Listed
 pub mod Outline
 pub mod Composable
 pub mod Composing

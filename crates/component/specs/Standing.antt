@@ -24,10 +24,10 @@ entriesAt place (more p {s = e} n w r) = entryAt place e p ∷ entriesAt (place 
 
 -- the entries of a component, as they go to the table
 unfoldable pub standing : {c : Component} {s : Octets} → Laid c s → List Entry
-standing (invoked id specifier ps i f set s a b w r v x) = entriesAt (length s - length set) r
+standing (invoked id specifier ps i o f set s a b w n r v x) = entriesAt (length s - length set) r
 standing (answered id ps i f set s a w r v x) = entriesAt (length s - length set) r
 
 -- 0 in a RESULT
 unfoldable pub specifierPlace : {c : Component} {s : Octets} → Laid c s → ℕ
-specifierPlace (invoked id specifier ps i f set s a b w r v x) = length s - (length f + 1)
+specifierPlace (invoked id specifier ps i o f set s a b w n r v x) = length s - (length f + 1)
 specifierPlace (answered id ps i f set s a w r v x) = 0

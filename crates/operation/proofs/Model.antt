@@ -1,7 +1,7 @@
 -- Ours satisfies the demands.
 use Prim.Native.Nat.{ℕ, zero, suc, _+_, _*_, _<_, _≤_}
 use mathlib.Core.Path.{_≡_, refl, sym, ap, ap₂, _∙_}
-use mathlib.Core.List.{List, _∷_, _++_, map}
+use mathlib.Core.List.{List, _++_, map}
 use mathlib.Core.Logic.{_⊎_, inl, inr, ⊎-elim}
 use lib.ListN.{length, getD, take, drop}
 use lib.Seq.{take-append-seam}
@@ -10,22 +10,23 @@ use native.Mathlib.Omega.{arith}
 use Rattle.element.specs.Octets.{Octets, AreOctets}
 use Rattle.element.specs.Answer.{Answer, accepted, refused}
 use Rattle.component.specs.Layout.{Layout, layoutOf}
-use Rattle.component.specs.Grammar.{Parameter, Laid, Component, parametersOf, kindOf, identifierOf, specifierOf}
-use Rattle.component.specs.Faults.{LaidOut, Typed, Allowed}
+use Rattle.component.specs.Grammar.{Laid, Component, parametersOf, kindOf, identifierOf, specifierOf}
+use Rattle.component.specs.Faults.{Typed, Allowed}
 use Rattle.component.specs.Shown.{specifierIn}
 use Rattle.component.specs.Standing.{standing}
 use Rattle.component.specs.Composed.{composed}
-use Rattle.component.specs.Table.{parametersFrom, idOf, tableWith, entryOf, idOctets}
-use Rattle.component.specs.Composing.{entryStands, entriesFrom, written, outputAfter}
+use Rattle.component.specs.Table.{parametersFrom, idOf, tableWith, idOctets}
+use Rattle.component.specs.Composing.{written, outputAfter}
 use Rattle.component.proofs.Ends.{Ends, gives, given as Ends·given, stopped, then, at-most}
 use Rattle.component.proofs.Asking.{answered}
-use Rattle.component.proofs.Taken.{taken, passed}
+use Rattle.component.proofs.Taken.{taken}
 use Rattle.component.proofs.Making.{Makes, makes, entries-again, octets-again}
 use Rattle.component.proofs.Composes.{composes, is-composed, laid-composable}
 use Rattle.component.proofs.Entries.{as-many, table-shown}
-use Rattle.component.proofs.Sound.{sound}
 use Rattle.component.proofs.Complete.{Reads, complete}
-use Rattle.component.proofs.Faulting.{faulty}
+use Rattle.component.proofs.Emission.{listed}
+use Rattle.component.proofs.Deciding.{ask, decTyped}
+use Rattle.component.proofs.OneFault.{laid-out, faulty}
 use Rattle.operation.specs.Row.{Row}
 use Rattle.operation.specs.Judge.{judge}
 use Rattle.operation.specs.Finding.{rowOf}
@@ -44,13 +45,6 @@ use Rattle.operation.proofs.OnlyOne.{reader-accepts, refused-so, ready,
 
 -- ---- the reader: what is refused is to be refused, and what is accepted is right
 module _ (s : Octets) (o : AreOctets s) where
-  laid-read : {l : Layout} → layoutOf s ≡ accepted l → (c : Component) × (h : LaidOut c s) × Reads (h .laid) l
-  laid-read {l} e =
-      let (c, laid, _, within, few) = sound s o l e in
-      let (m, f, q) = complete laid within few in
-      let p : m ≡ l = cc in
-      (c, record { laid = laid; within = within; few = few }, rw p at q)
-
   same-row : {c : Component} {h : Laid c s} {l : Layout} {x : Answer Row} (given : ℕ) → Reads h l → rowOf (l .head .kind) (specifierIn s l given) 0 ≡ x →
       rowOf (kindOf c) (specifierOf c given) 0 ≡ x
   same-row given q e = cc (q .outlines .specifier given, q .outlines .kind)
@@ -65,7 +59,7 @@ module _ (s : Octets) (o : AreOctets s) where
         let Q = ReaderRefuses s given t in
         at-most Q ReaderRefuses.table λ (enough : 256 ≤ length t).
         then (answered Q (layoutOf s) λ n d e. ReaderRefuses.fault enough (faulty s o e)) λ l e.
-        let (c, h, q) = laid-read e in
+        let (c, h, q) = laid-out s o e in
         then (row-ends Q (l .head .kind) (specifierIn s l given) (l .head .operation) λ f. rw (q .operation) (ReaderRefuses.no-row enough h (has-none _ _ (same-row given q f)))) λ row r.
         let its : RowFor (kindOf c) (specifierOf c given) row = has-row _ _ _ (same-row given q (r 0)) in
         then (answered Q (judge row (map itemOf (l .entries))) λ n d f. ReaderRefuses.misfit enough h its (row-faulty row _ (rw (q .entries) at f))) λ _ j.
@@ -93,13 +87,6 @@ module _ (s : Octets) (o : AreOctets s) where
         given-right f = Ends·given reader-ends f
 
 -- ---- the writer: each question of its list, and what follows
-ask : {P R : Type 0} → Dec P → (P → R) → ((P → ⊥) → R) → R
-ask (yes p) f g = f p
-ask (no n) f g = g n
-
-decTyped : (kind : ℕ) → Dec (Typed kind)
-decTyped kind = ask (ℕ-discrete kind 0xE9) (λ e. yes (inl e)) λ n. ask (ℕ-discrete kind 0xEA) (λ e. yes (inr e)) λ m. no (⊎-elim n m)
-
 decAllowed : (kind size : ℕ) → Typed kind → Dec (Allowed kind size)
 decAllowed kind size (inl e) = ask (decLe size 2) (λ h. yes (inl (e, h))) λ n. no (⊎-elim (λ (_, h). n h) (λ (f, _). omega arith))
 decAllowed kind size (inr e) = ask (ℕ-discrete size 1) (λ h. yes (inr (e, h))) λ n. no (⊎-elim (λ (f, _). omega arith) (λ (_, h). n h))
@@ -226,14 +213,6 @@ reads-then-writes s given t out o e h =
     let (p, q) = reader-accepts s o given t r in
     handed-back s given t out r h (inner (sym p ∙ e)) q
 
-entries-are : (i n : ℕ) (t : List ℕ) (s : Octets) {ps : List Parameter} → entriesFrom i n t s ≡ accepted ps → parametersFrom i n t s ≡ ps
-unfolding entriesFrom parametersFrom
-entries-are i zero t s e = inner e
-entries-are i (suc n) t s e =
-    let (_, f) = passed (entryStands t s i) 16 i e in
-    let (qs, g, h) = taken (entriesFrom (i + 1) n t s) f in
-    ap (λ ps. entryOf t s i ∷ ps) (entries-are (i + 1) n t s g) ∙ inner h
-
 counted : (i n : ℕ) (t : List ℕ) (s : Octets) → length (parametersFrom i n t s) ≡ n
 unfolding parametersFrom
 counted i zero t s = refl
@@ -277,7 +256,7 @@ module _ (o : Order) (out : Octets) where
       let composable = laid-composable (l .laid) (l .within) in
       let shows = rw (z .entries) at (z .outlines .shows) in
       let (_, f) = table-shown shows (composable .identified) t in
-      let g = entries-are 0 _ _ _ f in
+      let g = sym (listed _ _ 0 _ f) in
       let n = as-many shows in
       let c = counted 0 (o .count) (o .table) (o .source) in (
         tells (o .specifier) (made o) row,
