@@ -1,18 +1,15 @@
 -- What the paper's list shuts out: none of these satisfies the demands, since each differs from ours on one input.
 use Prim.Native.Nat.{ℕ}
 use mathlib.Core.Path.{_≡_, refl, sym, ap, _∙_}
-use mathlib.Core.List.{List, [], _∷_}
+use mathlib.Core.List.{List, [], _∷_, map}
 use lib.ListN.{getD, drop, replicate}
 use native.Mathlib.Omega.{arith}
 use Rattle.element.specs.Octets.{Octets, AreOctets}
 use Rattle.element.specs.Answer.{Answer, accepted, refused}
-use Rattle.element.specs.Decoded.{lengthAt, within, numbered, identifierAt}
 use Rattle.element.specs.Length.{shortest, fieldSize}
 use Rattle.element.specs.Identifier.{identifier, identifierSize}
 use Rattle.element.proofs.Reading.{small}
-use Rattle.component.specs.Layout.{spanOf, contents, wanted, setAt, operation, invoke, result, headOf, parameter, parameterAt, parameters, layoutOf}
-use Rattle.component.specs.Shown.{specifierIn}
-use Rattle.component.specs.Table.{numbers, tableWith, idOf, entryOf, idOctets, componentOf}
+use Rattle.component.specs.Table.{entryOf, idOctets, componentOf}
 use Rattle.component.specs.Part.{fits}
 use Rattle.component.specs.Composed.{element, setOf, composed}
 use Rattle.component.specs.Composing.{entryStands, entriesFrom, idFits, entriesOf, octetsOf, written, outputAfter}
@@ -21,59 +18,45 @@ use Rattle.operation.specs.Row.{key, numberOf, onLine, named, repeats}
 use Rattle.operation.specs.Judge.{occurs, lastMark, once, present, single, judge, countNamed}
 use Rattle.operation.specs.Rows.{operations}
 use Rattle.operation.specs.Finding.{find, rowOf}
-use Rattle.operation.specs.Items.{itemOf, itemsOf}
-use Rattle.operation.specs.Reading.{countOther, reading, tableAfter}
+use Rattle.operation.specs.Items.{itemsOf}
 use Rattle.operation.specs.Writing.{writing}
-use Rattle.operation.specs.Caller.{Told, Reader, Order, Writer}
-use Rattle.operation.specs.Told.{told}
+use Rattle.operation.specs.Caller.{Read, Told, Reader, Order, Writer}
 use Rattle.operation.specs.Demands.{Demands}
 use Rattle.operation.specs.Model.{reader, writer, OnlyOne}
+use Rattle.operation.specs.Charts.{zeros, expected, starred, living}
+use Rattle.operation.proofs.Charts.{charts, rows-live}
 use Rattle.operation.proofs.OnlyOne.{only-one}
+
+-- what ours says of a chart, and what it leaves
+abbrev at : ℕ → List Read → Read
+at i rs = getD rs i (record { answer = refused 0 0; table = [] })
 
 abbrev chart : Octets
 chart = 0xEA ∷ 0x07 ∷ 0xCF ∷ 0x01 ∷ 0x05 ∷ 0xF2 ∷ 0x02 ∷ 0x85 ∷ 0x00 ∷ []
 
-abbrev zeros : List ℕ
-zeros = replicate 256 0
+shown : reader chart 4 zeros ≡ at 3 (map expected starred)
+shown = ap (at 3) charts
 
-chart-octets : AreOctets chart
-chart-octets = small chart (omega arith)
+shown-other : reader chart 26 zeros ≡ at 4 (map expected starred)
+shown-other = ap (at 4) charts
 
--- what ours says of it, and what it leaves
-shown : reader chart 4 zeros ≡ record {
-  answer = accepted (record { kind = 0xEA; id = record { count = 1; first = 5; second = 0 }; specifier = 4; all = 1; named = 1; other = 0 });
-  table = 5 ∷ 0 ∷ 9 ∷ 0 ∷ replicate 252 0;
-}
-unfolding lengthAt within numbered identifierAt spanOf contents wanted setAt operation invoke result headOf parameter parameterAt parameters layoutOf specifierIn key numberOf onLine named repeats occurs lastMark once present single judge countNamed operations find rowOf itemOf countOther reading told tableAfter numbers tableWith idOf
-shown = refl
+shown-rowless : reader chart 0 zeros ≡ at 5 (map expected starred)
+shown-rowless = ap (at 5) charts
 
-shown-empty : reader [] 4 zeros ≡ record { answer = refused 2 0; table = zeros }
-unfolding lengthAt within numbered identifierAt spanOf contents wanted setAt operation invoke result headOf parameter parameterAt parameters layoutOf specifierIn key numberOf onLine named repeats occurs lastMark once present single judge countNamed operations find rowOf itemOf countOther reading told tableAfter numbers tableWith idOf
-shown-empty = refl
-
-shown-other : reader chart 26 zeros ≡ record {
-  answer = accepted (record { kind = 0xEA; id = record { count = 1; first = 5; second = 0 }; specifier = 26; all = 1; named = 0; other = 1 });
-  table = 5 ∷ 0 ∷ 9 ∷ 0 ∷ replicate 252 0;
-}
-unfolding lengthAt within numbered identifierAt spanOf contents wanted setAt operation invoke result headOf parameter parameterAt parameters layoutOf specifierIn key numberOf onLine named repeats occurs lastMark once present single judge countNamed operations find rowOf itemOf countOther reading told tableAfter numbers tableWith idOf
-shown-other = refl
-
-shown-rowless : reader chart 0 zeros ≡ record { answer = refused 11 0; table = zeros }
-unfolding lengthAt within numbered identifierAt spanOf contents wanted setAt operation invoke result headOf parameter parameterAt parameters layoutOf specifierIn key numberOf onLine named repeats occurs lastMark once present single judge countNamed operations find rowOf itemOf countOther reading told tableAfter numbers tableWith idOf
-shown-rowless = refl
+shown-empty : reader [] 0 zeros ≡ at 7 (map expected starred)
+shown-empty = ap (at 7) charts
 
 abbrev two : Octets
 two = 0xEA ∷ 0x09 ∷ 0xCF ∷ 0x01 ∷ 0x05 ∷ 0xF2 ∷ 0x04 ∷ 0x85 ∷ 0x00 ∷ 0x87 ∷ 0x00 ∷ []
 
+shown-two : reader two 4 zeros ≡ at 3 (map expected living)
+shown-two = ap (at 3) rows-live
+
+chart-octets : AreOctets chart
+chart-octets = small chart (omega arith)
+
 two-octets : AreOctets two
 two-octets = small two (omega arith)
-
-shown-two : reader two 4 zeros ≡ record {
-  answer = accepted (record { kind = 0xEA; id = record { count = 1; first = 5; second = 0 }; specifier = 4; all = 2; named = 1; other = 1 });
-  table = 5 ∷ 0 ∷ 9 ∷ 0 ∷ 7 ∷ 0 ∷ 11 ∷ 0 ∷ replicate 248 0;
-}
-unfolding lengthAt within numbered identifierAt spanOf contents wanted setAt operation invoke result headOf parameter parameterAt parameters layoutOf specifierIn key numberOf onLine named repeats occurs lastMark once present single judge countNamed operations find rowOf itemOf countOther reading told tableAfter numbers tableWith idOf
-shown-two = refl
 
 abbrev order : Order
 order = record { kind = 0xEA; id = record { count = 1; first = 5; second = 0 }; specifier = 4; count = 1; table = 5 ∷ 0 ∷ 0 ∷ 0 ∷ []; source = [] }
@@ -109,8 +92,8 @@ module _ (r : Reader) (w : Writer) (d : Demands r w) where
   not-constant a h =
       let p = h chart 4 zeros in
       let q = ap (λ x. x .answer) (ours-is chart 4 zeros chart-octets ∙ shown) in
-      let u = h [] 4 zeros in
-      let v = ap (λ x. x .answer) (ours-is [] 4 zeros (small [] tt) ∙ shown-empty) in
+      let u = h [] 0 zeros in
+      let v = ap (λ x. x .answer) (ours-is [] 0 zeros (small [] tt) ∙ shown-empty) in
       let z : _≡_ {A = ℕ} 0 1 = cc in
       omega arith
 

@@ -24,4 +24,5 @@ pub mod Counts
 pub mod OnlyOne
 pub mod Model
 pub mod Truthful
+pub mod Charts
 pub mod Excluded
