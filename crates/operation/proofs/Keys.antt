@@ -12,18 +12,18 @@ use Rattle.component.specs.Shown.{Shows, Pairwise, none, more}
 use Rattle.operation.specs.Row.{Row, Item, named}
 use Rattle.operation.specs.Judge.{judge, countNamed}
 use Rattle.operation.specs.Book.{Fits}
-use Rattle.operation.specs.Points.{keys}
+use Rattle.operation.specs.Faults.{keysOf}
 use Rattle.operation.specs.Items.{itemOf, itemsOf}
 use Rattle.operation.specs.Reading.{countOther}
 use Rattle.operation.specs.Demands.{keyOf, tally}
-use Rattle.operation.proofs.Exact.{exact}
+use Rattle.operation.proofs.RowFaults.{exact}
 
-keys-read : {s : Octets} {es : List Entry} {ps : List Parameter} → Pairwise (Shows s) es ps → keys (map itemOf es) ≡ map keyOf ps
+keys-read : {s : Octets} {es : List Entry} {ps : List Parameter} → Pairwise (Shows s) es ps → keysOf (map itemOf es) ≡ map keyOf ps
 unfolding itemOf
 keys-read none = refl
 keys-read (more h r) = rw (h .number, h .form, keys-read r)
 
-keys-written : (i : ℕ) (ps : List Parameter) → keys (itemsOf i ps) ≡ map keyOf ps
+pub keys-written : (i : ℕ) (ps : List Parameter) → keysOf (itemsOf i ps) ≡ map keyOf ps
 unfolding itemsOf
 keys-written i [] = refl
 keys-written i (p ∷ ps) = rw (keys-written (i + 1) ps)
@@ -33,7 +33,7 @@ turned true a b = refl
 turned false a b = refl
 
 module _ (row : Row) where
-  tallied : (xs : List Item) → (countNamed row xs ≡ tally (named row) (keys xs)) × (countOther row xs ≡ tally (λ k. not (named row k)) (keys xs))
+  tallied : (xs : List Item) → (countNamed row xs ≡ tally (named row) (keysOf xs)) × (countOther row xs ≡ tally (λ k. not (named row k)) (keysOf xs))
   unfolding countNamed countOther tally
   tallied [] = (refl, refl)
   tallied (x ∷ xs) = let (a, b) = tallied xs in (rw a, rw b (turned (named row (x .is)) _ _))

@@ -1,8 +1,6 @@
 pub mod Lines
 pub mod Untouched
-pub mod Judging
 pub mod Marks
-pub mod Exact
 pub mod RowFaults
 pub mod Entries
 pub mod LineCode

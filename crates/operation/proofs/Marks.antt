@@ -1,17 +1,14 @@
--- Marks only point: where they move, the judgement is the same and its refusals move along; a refusal points to an item, or to a line of the row.
+-- Marks only point: where they move, the judgement is the same and its refusals move along.
 use Prim.Native.Nat.{ℕ}
 use mathlib.Core.Path.{_≡_, refl}
-use mathlib.Core.Bool.{Bool, true, false, _&&_, _||_, not, or-true, true≢false}
-use mathlib.Core.List.{List, [], _∷_, map, List·Memᴰ, List·Memᴰ·head, List·Memᴰ·tail}
-use mathlib.Core.Logic.{_≢_}
+use mathlib.Core.Bool.{Bool, true, false, _&&_, _||_, not}
+use mathlib.Core.List.{List, [], _∷_, map}
 use lib.Dec.{eqb}
 use Rattle.element.specs.Octets.{if}
 use Rattle.element.specs.Answer.{Answer, accepted, refused, _>>_, check}
-use Rattle.operation.specs.Row.{numberOf, Row, Line, must, oneOf, may, Item, onLine, named, repeats}
+use Rattle.operation.specs.Row.{numberOf, Row, must, oneOf, may, Item, named, repeats}
 use Rattle.operation.specs.Judge.{occurs, once, present, single, judge, countNamed, pointed, remark}
-use Rattle.operation.specs.Points.{Points, repeated, missing, neither, both}
 use Rattle.operation.proofs.Lines.{last}
-use Rattle.operation.proofs.Judging.{View, fine, wrong, judged}
 
 module _ (f : ℕ → ℕ) where
   -- two answers, the first with its mark moved
@@ -65,22 +62,3 @@ module _ (f : ℕ → ℕ) where
   unfolding countNamed remark
   count-marked row [] = refl
   count-marked row (x ∷ xs) = rw (count-marked row xs)
-
-pub points : (row : Row) (xs : List Item) {n d : ℕ} → judge row xs ≡ refused n d → Points row xs n d
-points row xs {n} {d} e = go (judged row xs) e
-  where
-    go : {P : Type 0} {a : Answer Unit} → View row xs P a → a ≡ refused n d → Points row xs n d
-    go (fine p) e = absurd (true≢false (cc))
-    go (wrong {n = i} {d = j} p) e = let q : n ≡ i = cc in let r : d ≡ j = cc in rw (q, r) p
-
-pub on-row : {l : Line} {row : Row} → List·Memᴰ l row → (k : ℕ) → onLine l k ≡ true → named row k ≡ true
-unfolding named
-on-row (List·Memᴰ·head p) k e = cc
-on-row (List·Memᴰ·tail m) k e = simp (on-row m k e, or-true)
-
--- what a refusal points to that is no missing line
-pub item : {row : Row} {xs : List Item} {n d : ℕ} → Points row xs n d → n ≢ 13 → (x : Item) × List·Memᴰ x xs × (named row (x .is) ≡ true) × (x .mark ≡ d)
-item (repeated x m e _ _) h = (x, m, e, refl)
-item (missing j _ _) h = absurd (h refl)
-item (neither i j _ _ _) h = absurd (h refl)
-item (both i j l _ _ x m e) h = (x, m, on-row l (x .is) e, refl)

@@ -39,7 +39,7 @@ use Rattle.operation.specs.Demands.{RowFor, ReaderRefuses, Right, tells,
 use Rattle.operation.specs.Model.{reader, writer, written-as}
 use Rattle.operation.proofs.Readings.{either-row, row-ends}
 use Rattle.operation.proofs.RowsFound.{has-row, its-row, has-none}
-use Rattle.operation.proofs.Keys.{fits-read, fits-written}
+use Rattle.operation.proofs.Keys.{keys-written, fits-read, fits-written}
 use Rattle.operation.proofs.RowFaults.{row-faulty, row-either}
 use Rattle.operation.proofs.OnlyOne.{reader-accepts, refused-so, ready, writer-refuses, writer-accepts}
 
@@ -121,8 +121,8 @@ module _ (o : Order) where
 
     fits-or-not : Ready o → {row : Row} → RowFor (o .kind) (o .specifier) row → Outcome
     fits-or-not r {row} e =
-        ⊎-elim (λ (n, d, f). inr (n, d, WriterRefuses.misfit r e f)) (λ j.
-        let f = fits-written row 0 (ordered o) .0 j in
+        ⊎-elim (λ (n, d, f). inr (n, d, WriterRefuses.misfit r e f)) (λ k.
+        let f = rw (keys-written 0 (ordered o)) at k in
         ask (decLe (needed o) (length out))
         (λ h. inl (row, record { ready = r; has-row = e; fits = f; room = h }))
         (λ n. inr (17, needed o, WriterRefuses.no-room r e f (omega arith)))) (row-either row (itemsOf 0 (ordered o)))

@@ -6,7 +6,6 @@ use mathlib.Core.List.{List, [], _∷_, map, List·Memᴰ, List·Memᴰ·cases-c
 use mathlib.Core.Logic.{⊎-elim}
 use lib.ListN.{length}
 use lib.Dec.{eqb}
-use native.Mathlib.Nat.{zero-add}
 use native.Mathlib.Omega.{arith}
 use Rattle.element.specs.Octets.{Octets, AreOctets, if}
 use Rattle.element.specs.Answer.{Answer, accepted, refused, _>>=_, _>>_}
@@ -20,13 +19,14 @@ use Rattle.operation.specs.declared.Judged as J
 use Rattle.operation.specs.declared.Judged.the-variants as JV
 use Rattle.operation.specs.Row.{Row, Item, named}
 use Rattle.operation.specs.Judge.{judge, countNamed, pointed}
-use Rattle.operation.specs.Points.{Points, repeated, missing, neither, both}
+use Rattle.operation.specs.Faults.{RowFault, again, missing, both}
 use Rattle.operation.specs.Coded.{itemsFrom, judgement, verdict, judgedIn}
 use Rattle.operation.specs.Items.{itemOf}
 use Rattle.operation.specs.Reading.{countOther, reading, tableAfter}
 use Rattle.operation.specs.Told.{told}
 use Rattle.operation.specs.Finishing.{specifierFor, Pointing, detailOf, finished, tableFinished}
-use Rattle.operation.proofs.Marks.{marked, count-marked, points}
+use Rattle.operation.proofs.Marks.{marked, count-marked}
+use Rattle.operation.proofs.RowFaults.{row-faulty, pointed-at}
 use Rattle.operation.proofs.Readings.{either-row, shownBy, reads, no-row}
 use Rattle.operation.proofs.Places.{indexed, placeAt, sheet-items, placed-items, sheet-place}
 
@@ -67,13 +67,15 @@ module _ (s : Octets) (o : AreOctets s) (given : ℕ) (z : List ℕ) {l : Layout
 
   -- what a row says of the entries, by entry and by place
   module _ (row : Row) where
-    pointing-at : {n d : ℕ} → Points row (indexed 0 (l .entries)) n d →
+    below : {n d : ℕ} → RowFault row (indexed 0 (l .entries)) n d → (n ≡ 13 → ⊥) → d < length (l .entries)
+    below f h = let (x, m, e) = pointed-at f h in omega (arith, mark-below (l .entries) 0 x m)
+
+    pointing-at : {n d : ℕ} → RowFault row (indexed 0 (l .entries)) n d →
         detailOf (headingOf s (l .head)) (tableWith (l .entries) z) n d ≡ if (eqb n 13) d (placeAt (l .entries) d)
     unfolding detailOf headingOf
-    pointing-at (repeated x m a b c) = sheet-place (l .entries) z (in-order s o l e) (x .mark) (rw zero-add at (mark-below (l .entries) 0 x m))
-    pointing-at (missing j m a) = refl
-    pointing-at (neither i j m a b) = refl
-    pointing-at (both i j m a b x n c) = sheet-place (l .entries) z (in-order s o l e) (x .mark) (rw zero-add at (mark-below (l .entries) 0 x n))
+    pointing-at (again before x behind p q r u v) = sheet-place (l .entries) z (in-order s o l e) (x .mark) (below (again before x behind p q r u v) (λ z. omega arith))
+    pointing-at (missing q f) = refl
+    pointing-at (both {x = x} q p f y) = sheet-place (l .entries) z (in-order s o l e) (x .mark) (below (both q p f y) (λ z. omega arith))
 
     by-place : judge row (map itemOf (l .entries)) ≡ pointed (placeAt (l .entries)) (judge row (indexed 0 (l .entries)))
     by-place = rw (← placed-items (l .entries)) (marked (placeAt (l .entries)) row (indexed 0 (l .entries)))
@@ -89,13 +91,7 @@ module _ (s : Octets) (o : AreOctets s) (given : ℕ) (z : List ℕ) {l : Layout
         ≡ told (pointed (placeAt (l .entries)) a >>= λ _. accepted (shownBy s l given row))
     unfolding finished told pointed headingOf
     judged (accepted u) q = simp (others, same-count)
-    judged (refused n d) q = ap (refused n) (pointing-at (points row (indexed 0 (l .entries)) q))
-
-    below : {n d : ℕ} → Points row (indexed 0 (l .entries)) n d → (n ≡ 13 → ⊥) → d < length (l .entries)
-    below (repeated x m a b c) f = rw zero-add at (mark-below (l .entries) 0 x m)
-    below (missing j m a) f = absurd (f refl)
-    below (neither i j m a b) f = absurd (f refl)
-    below (both i j m a b x n c) f = rw zero-add at (mark-below (l .entries) 0 x n)
+    judged (refused n d) q = ap (refused n) (pointing-at (row-faulty row (indexed 0 (l .entries)) q))
 
     pointing-by : (a : Answer Unit) → judge row (indexed 0 (l .entries)) ≡ a → (j : J.Judged) →
         judgedIn j ≡ (a >>= λ _. accepted (countNamed row (indexed 0 (l .entries)))) → Pointing (length (l .entries)) j
@@ -111,12 +107,12 @@ module _ (s : Octets) (o : AreOctets s) (given : ℕ) (z : List ℕ) {l : Layout
     pointing-by (refused n d) q (JV.Again i) f =
         let g : 12 ≡ n = cc in
         let h : i ≡ d = cc in
-        rw h (below (points row (indexed 0 (l .entries)) q) (λ k. omega arith))
+        rw h (below (row-faulty row (indexed 0 (l .entries)) q) (λ k. omega arith))
     pointing-by (refused n d) q (JV.Missing m) f = tt
     pointing-by (refused n d) q (JV.Both i) f =
         let g : 14 ≡ n = cc in
         let h : i ≡ d = cc in
-        rw h (below (points row (indexed 0 (l .entries)) q) (λ k. omega arith))
+        rw h (below (row-faulty row (indexed 0 (l .entries)) q) (λ k. omega arith))
 
     shows : (t : List ℕ) → 256 ≤ length z → 256 ≤ length t → (a : Answer Unit) →
         tableFinished (length (l .entries)) (tableWith (l .entries) z) t (a >>= λ _. accepted (countNamed row (indexed 0 (l .entries))))

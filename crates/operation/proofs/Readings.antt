@@ -1,18 +1,17 @@
 -- The steps of a reading: its row, which does not hang on the place that 11 would point to, and what stands behind them.
 use Prim.Native.Nat.{ℕ, _≤_}
-use mathlib.Core.Path.{_≡_, refl, sym, ap, _∙_}
+use mathlib.Core.Path.{_≡_, refl, sym, _∙_}
 use mathlib.Core.Bool.{Bool, true, false, _&&_}
 use mathlib.Core.List.{List, [], _∷_, map}
 use mathlib.Core.Logic.{_⊎_, inl, inr, ⊎-elim}
-use lib.Dec.{eqb, leb}
-use borrow.Author.Tests.{le-leb, leb-true}
+use lib.Dec.{eqb}
+use borrow.Author.Tests.{le-leb}
 use native.Mathlib.Omega.{arith}
 use Rattle.element.specs.Octets.{Octets, if, between}
 use Rattle.element.specs.Answer.{Answer, accepted, refused, _>>_}
 use Rattle.component.specs.Layout.{Layout, layoutOf}
 use Rattle.component.specs.Shown.{specifierIn}
 use Rattle.component.proofs.Ends.{Ends, gives, stops}
-use Rattle.component.proofs.Taken.{taken, passed}
 use Rattle.operation.specs.Row.{Row}
 use Rattle.operation.specs.Judge.{judge, countNamed}
 use Rattle.operation.specs.Rows.{Operation, operations}
@@ -68,35 +67,3 @@ module _ (s : Octets) (given room : ℕ) {l : Layout} (h : 256 ≤ room) (e : la
   pub no-row : rowOf (l .head .kind) (specifierIn s l given) (l .head .operation) ≡ refused 11 (l .head .operation) → reading s given room ≡ refused 11 (l .head .operation)
   unfolding reading
   no-row f = simp (le-leb 256 room, e, f)
-
--- ---- an accepted reading, and back
-pub record Read (s : Octets) (given room : ℕ) (x : Shown) : Type 0 where
-  pub enough : 256 ≤ room
-  pub layout : Layout
-  pub laid : layoutOf s ≡ accepted layout
-  pub row : Row
-  pub has-row : rowOf (layout .head .kind) (specifierIn s layout given) 0 ≡ accepted row
-  pub judged : judge row (map itemOf (layout .entries)) ≡ accepted tt
-  pub shown : shownBy s layout given row ≡ x
-
-module _ {s : Octets} {given room : ℕ} {x : Shown} where
-  pub taken-apart : reading s given room ≡ accepted x → Read s given room x
-  unfolding reading
-  taken-apart e =
-      let (h, f) = passed (leb 256 room) 1 0 e in
-      let (l, laid, g) = taken (layoutOf s) f in
-      let (row, has-row, k) = taken (rowOf (l .head .kind) (specifierIn s l given) (l .head .operation)) g in
-      let (_, judged, n) = taken (judge row (map itemOf (l .entries))) k in
-      record {
-        enough = leb-true 256 room h;
-        layout = l;
-        laid = laid;
-        row = row;
-        has-row = anywhere _ _ (l .head .operation) has-row 0;
-        judged = judged;
-        shown = cc;
-      }
-
-  pub put-together : Read s given room x → reading s given room ≡ accepted x
-  put-together r =
-      reads s given room (r .enough) (r .laid) (anywhere _ _ 0 (r .has-row) (r .layout .head .operation)) ∙ rw (r .judged) (ap accepted (r .shown))

@@ -1,23 +1,49 @@
--- A row refuses with the fault that the run has, and with no other.
-use Prim.Native.Nat.{ℕ, _+_, _≤_}
+-- A row accepts a run exactly where the run fits the table as the book words it, and refuses with the fault that the run has, and with no other.
+use Prim.Native.Nat.{ℕ, _+_, _<_, _≤_}
 use mathlib.Core.Path.{_≡_, refl, sym, ap, _∙_}
 use mathlib.Core.Bool.{Bool, true, false, _&&_, _||_, not, true≢false}
-use mathlib.Core.List.{List, [], _∷_, _++_, append-assoc, append-nil}
+use mathlib.Core.List.{List, [], _∷_, _++_, append-assoc, append-nil, List·Memᴰ, List·Memᴰ·head, List·Memᴰ·tail, Memᴰ·append-right}
 use mathlib.Core.Logic.{_⊎_, inl, inr, ⊎-elim, _↔_}
-use lib.Dec.{eqb}
-use borrow.Author.Tests.{eqb-true, le-leb, lt-leb}
+use lib.Dec.{leb, eqb}
+use borrow.Author.Tests.{eqb-true, le-leb, lt-leb, leb-true, leb-false}
+use native.Mathlib.Decide.{decLe}
 use native.Mathlib.Omega.{arith}
 use Rattle.element.specs.Octets.{if}
 use Rattle.element.specs.Answer.{Answer, accepted, refused, _>>_, check}
 use Rattle.component.proofs.Ends.{Ends, gives, stops}
 use Rattle.operation.specs.Row.{Row, Line, must, oneOf, may, Item, onLine, named, repeats}
 use Rattle.operation.specs.Judge.{occurs, lastMark, once, present, single, judge}
-use Rattle.operation.specs.Book.{times, Each, none, more}
-use Rattle.operation.specs.Faults.{keysOf, First, Last, Once, Unmet, asks, Doubled, RowFault, again, missing, both}
-use Rattle.operation.proofs.Judging.{counts, some, absent, moved, room}
+use Rattle.operation.specs.Book.{times, Kept, occurred, first, second, allowed, Each, none, more, Once, Fits}
+use Rattle.operation.specs.Faults.{keysOf, First, Last, Unmet, asks, Doubled, RowFault, again, missing, both}
 use Rattle.operation.proofs.Lines.{or-false, self}
 
 -- ---- what occurs
+-- what occurs is counted
+counts : (k : ℕ) (xs : List Item) → occurs k xs ≡ leb 1 (times k (keysOf xs))
+unfolding occurs times
+counts k [] = refl
+counts k (x ∷ xs) = step (eqb (x .is) k) (times k (keysOf xs)) (counts k xs)
+  where
+    step : (t : Bool) (n : ℕ) {o : Bool} → o ≡ leb 1 n → (t || o) ≡ leb 1 (if t (1 + n) n)
+    step true n e = sym (le-leb 1 (1 + n) (omega arith))
+    step false n e = e
+
+module _ (k : ℕ) (xs : List Item) where
+  some : occurs k xs ≡ true → 1 ≤ times k (keysOf xs)
+  some e = leb-true 1 _ (sym (counts k xs) ∙ e)
+
+  absent : occurs k xs ≡ false → times k (keysOf xs) ≡ 0
+  absent e = let h : times k (keysOf xs) < 1 = leb-false 1 _ (sym (counts k xs) ∙ e) in omega arith
+
+-- an item moves from the rest to the seen
+moved : (t : Bool) (a b : ℕ) → if t (1 + a) a + b ≡ a + if t (1 + b) b
+moved true a b = omega arith
+moved false a b = omega arith
+
+room : (t : Bool) (a : ℕ) → (t ≡ true → a ≡ 0) → a ≤ 1 → if t (1 + a) a ≤ 1
+room true a z h = omega (arith, z refl)
+room false a z h = h
+
 module _ (k : ℕ) (xs : List Item) where
   occurring : 1 ≤ times k (keysOf xs) → occurs k xs ≡ true
   occurring h = counts k xs ∙ le-leb 1 _ h
@@ -235,6 +261,36 @@ unfolding times onLine
 none-on i j none = refl
 none-on i j (more {x = y} h e) = rw (or-false (eqb (y .is) i) (eqb (y .is) j) (other _ h) .0) (none-on i j e)
 
+-- a line is kept where something meets it and not both of a choice do
+kept-so : {ks : List ℕ} (l : Line) → (Unmet ks l → ⊥) → (Doubled ks l → ⊥) → Kept ks l
+kept-so (must j) h k = occurred j (omega arith)
+kept-so {ks} (oneOf i j) h k = go (decLe 1 (times i ks))
+  where
+    go : Dec (1 ≤ times i ks) → Kept ks (oneOf i j)
+    go (yes a) = first i j a (zero-so λ b. k (a, b))
+      where
+        zero-so : (1 ≤ times j ks → ⊥) → times j ks ≡ 0
+        zero-so f = omega arith
+    go (no a) = let z : times i ks ≡ 0 = omega arith in second i j z (one-so λ b. h (z, b))
+      where
+        one-so : (times j ks ≡ 0 → ⊥) → 1 ≤ times j ks
+        one-so f = omega arith
+kept-so (may j) h k = allowed j
+
+wrong-so : {ks : List ℕ} {l : Line} → Kept ks l → (Unmet ks l → ⊥) × (Doubled ks l → ⊥)
+wrong-so (occurred j h) = (λ z. omega arith, λ z. z)
+wrong-so (first i j h z) = (λ u. omega arith, λ d. omega arith)
+wrong-so (second i j z h) = (λ u. omega arith, λ d. omega arith)
+wrong-so (allowed j) = (λ z. z, λ z. z)
+
+all-kept : {ks : List ℕ} {ls : Row} → Each (λ l. Unmet ks l → ⊥) ls → Each (λ l. Doubled ks l → ⊥) ls → Each (Kept ks) ls
+all-kept none none = none
+all-kept (more h e) (more k f) = more (kept-so _ h k) (all-kept e f)
+
+none-wrong : {ks : List ℕ} {ls : Row} → Each (Kept ks) ls → Each (λ l. Unmet ks l → ⊥) ls × Each (λ l. Doubled ks l → ⊥) ls
+none-wrong none = (none, none)
+none-wrong (more h e) = let (a, b) = none-wrong e in let (u, d) = wrong-so h in (more u a, more d b)
+
 module _ (row : Row) (xs : List Item) where
   later-of : (l : Line) → Doubled (keysOf xs) l → (x : Item) × Last (λ y. onLine l (y .is) ≡ true) xs x
   later-of (must j) h = absurd h
@@ -242,21 +298,34 @@ module _ (row : Row) (xs : List Item) where
   later-of (may j) h = absurd h
 
   abbrev Outcome : Type 0
-  Outcome = ((n : ℕ) × (d : ℕ) × RowFault row xs n d) ⊎ (judge row xs ≡ accepted tt)
+  Outcome = ((n : ℕ) × (d : ℕ) × RowFault row xs n d) ⊎ Fits row (keysOf xs)
 
   pub row-either : Outcome
-  unfolding judge times
+  unfolding times
   row-either = go (once-ends row xs [] [] xs refl (λ k. refl) λ k _ _. omega arith)
     where
       lines : Once row (keysOf xs) → ((l : Line) × First (Unmet (keysOf xs)) row l) ⊎ Each (λ l. Unmet (keysOf xs) l → ⊥) row →
           ((l : Line) × First (Doubled (keysOf xs)) row l) ⊎ Each (λ l. Doubled (keysOf xs) l → ⊥) row → Outcome
       lines o (inl (l, f)) r = inl (13, asks l, missing o f)
       lines o (inr e) (inl (l, f)) = let (x, y) = later-of l (first-holds f) in inl (14, x .mark, both o e f y)
-      lines o (inr e) (inr f) = inr (rw (once-passes row [] xs (λ k p q. omega (arith, o k p q)), present-passes xs e, single-passes xs f))
+      lines o (inr e) (inr f) = inr (record { kept = all-kept e f; once = o })
 
       go : {a : Answer Unit} → Ends (λ _. Once row (keysOf xs)) (RowFault row xs) a → Outcome
       go (gives o) = lines o (find-first (absent-line xs) row) (find-first (doubled-line xs) row)
       go (stops {n} {d} f) = inl (n, d, f)
+
+  row-accepts : Fits row (keysOf xs) → judge row xs ≡ accepted tt
+  unfolding judge times
+  row-accepts f =
+      let (e, s) = none-wrong (f .kept) in
+      rw (once-passes row [] xs (λ k p q. omega (arith, f .once k p q)), present-passes xs e, single-passes xs s)
+
+  pub exact : (judge row xs ≡ accepted tt) ↔ Fits row (keysOf xs)
+  exact = (λ e. go e row-either, row-accepts)
+    where
+      go : judge row xs ≡ accepted tt → Outcome → Fits row (keysOf xs)
+      go e (inl (n, d, f)) = let g = row-refuses f in let z : _≡_ {A = ℕ} 0 1 = cc in absurd (omega arith)
+      go e (inr f) = f
 
   pub row-faulty : {n d : ℕ} → judge row xs ≡ refused n d → RowFault row xs n d
   row-faulty {n} {d} e = go row-either
@@ -267,8 +336,14 @@ module _ (row : Row) (xs : List Item) where
           let p : m ≡ n = cc in
           let q : c ≡ d = cc in
           rw (p, q) at f
-      go (inr g) = let z : _≡_ {A = ℕ} 0 1 = cc in absurd (omega arith)
+      go (inr f) = let g = row-accepts f in let z : _≡_ {A = ℕ} 0 1 = cc in absurd (omega arith)
 
-  -- a row refuses with the run's fault, and with no other
-  pub row-exact : {n d : ℕ} → (judge row xs ≡ refused n d) ↔ RowFault row xs n d
-  row-exact = (row-faulty, row-refuses)
+-- what a fault points to that is no missing line
+last-in : {P : Item → Type 0} {xs : List Item} {x : Item} → Last P xs x → List·Memᴰ x xs
+last-in (Last.here h e) = List·Memᴰ·head refl
+last-in (Last.later f) = List·Memᴰ·tail (last-in f)
+
+pub pointed-at : {row : Row} {xs : List Item} {n d : ℕ} → RowFault row xs n d → (n ≡ 13 → ⊥) → (x : Item) × List·Memᴰ x xs × (x .mark ≡ d)
+pointed-at (again before x behind e o n r t) h = (x, rw e (Memᴰ·append-right before (List·Memᴰ·head refl)), refl)
+pointed-at (missing o f) h = absurd (h refl)
+pointed-at (both {x = x} o e f y) h = (x, last-in y, refl)

@@ -17,16 +17,15 @@ use Rattle.component.specs.Standing.{standing}
 use Rattle.component.proofs.Complete.{complete}
 use Rattle.operation.specs.Row.{Row, named as names}
 use Rattle.operation.specs.Judge.{judge, pointed}
-use Rattle.operation.specs.Points.{Points, repeated, missing, neither, both}
+use Rattle.operation.specs.Faults.{RowFault, again, missing, both}
 use Rattle.operation.specs.Items.{itemOf}
 use Rattle.operation.specs.Demands.{RowFor, keyOf, tally, ReaderRefuses, tells, Joined, done, kept, newcomer, moved, newcomers, joined, placeIn, Truthful, both-accepted, same-missing, same-parameter, Demand3}
 use Rattle.operation.specs.Model.{reader, Ours}
-use Rattle.operation.proofs.Marks.{points}
 use Rattle.operation.proofs.Untouched.{untouched}
 use Rattle.operation.proofs.Places.{placeAt}
 use Rattle.operation.proofs.Marked.{indexed, judged, inside, items, grown}
 use Rattle.operation.proofs.Keys.{fits-read}
-use Rattle.operation.proofs.RowFaults.{row-faulty}
+use Rattle.operation.proofs.RowFaults.{row-faulty, pointed-at}
 use Rattle.operation.proofs.Model.{demand1-ours, demand2-ours}
 use Rattle.operation.proofs.OnlyOne.{reader-refuses, reader-accepts, refused-so}
 
@@ -97,12 +96,15 @@ module _ (given : ℕ) (t : List ℕ) (enough : 256 ≤ length t) {row : Row} wh
     told-more : tells given d row ≡ joined (tells given c row) (newcomers j)
     told-more = rw (specifier, kind, id, more-parameters j, as-many-named j, more-others j)
 
-    refused-both : (n i : ℕ) → judge row (indexed (parametersOf c)) ≡ refused n i → Points row (indexed (parametersOf c)) n i →
+    refused-both : (n i : ℕ) → RowFault row (indexed (parametersOf c)) n i →
         Truthful (h .laid) (k .laid) j t (record { answer = refused n (if (eqb n 13) i (f i)); table = t }) (record { answer = refused n (if (eqb n 13) i (g i)); table = t })
-    refused-both n i q (repeated x m _ _ _) = rw (same-place (standing (h .laid)) (x .mark), same-place (standing (k .laid)) (moved j (x .mark))) (same-parameter 12 (x .mark) (inl refl) (inside (parametersOf c) m))
-    refused-both n i q (missing _ _ _) = same-missing _
-    refused-both n i q (neither _ _ _ _ _) = same-missing _
-    refused-both n i q (both _ _ _ _ _ x m _) = rw (same-place (standing (h .laid)) (x .mark), same-place (standing (k .laid)) (moved j (x .mark))) (same-parameter 14 (x .mark) (inr refl) (inside (parametersOf c) m))
+    refused-both n i (again before x behind e o m r u) =
+        let (y, mem, mark) = pointed-at (again before x behind e o m r u) (λ z. omega arith) in
+        rw (same-place (standing (h .laid)) (x .mark), same-place (standing (k .laid)) (moved j (x .mark))) (same-parameter 12 (x .mark) (inl refl) (rw mark at (inside (parametersOf c) mem)))
+    refused-both n i (missing _ _) = same-missing _
+    refused-both n i (both {x = x} o e p y) =
+        let (z, mem, mark) = pointed-at (both o e p y) (λ z. omega arith) in
+        rw (same-place (standing (h .laid)) (x .mark), same-place (standing (k .laid)) (moved j (x .mark))) (same-parameter 14 (x .mark) (inr refl) (rw mark at (inside (parametersOf c) mem)))
 
     verdict : (a : Answer Unit) → judge row (indexed (parametersOf c)) ≡ a → Truthful (h .laid) (k .laid) j t (reader s given t) (reader u given t)
     unfolding pointed
@@ -113,7 +115,7 @@ module _ (given : ℕ) (t : List ℕ) (enough : 256 ≤ length t) {row : Row} wh
     verdict (refused n i) q =
         let p = not-right o h e (older ∙ ap (pointed f) q) in
         let r = not-right b k its-row (newer ∙ ap (pointed g) q) in
-        rw (p, r) (refused-both n i q (points row _ q))
+        rw (p, r) (refused-both n i (row-faulty row _ q))
 
 pub demand3-ours : Demand3 reader
 demand3-ours = record { truthful = λ given c d s u t o b enough h k kind id specifier e j. verdict given t enough o b h k kind id specifier e j _ refl }

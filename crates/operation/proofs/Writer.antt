@@ -21,7 +21,7 @@ use Rattle.operation.specs.Finding.{rowOf}
 use Rattle.operation.specs.Coded.{itemAt, itemsFrom, judgement, verdict}
 use Rattle.operation.specs.Items.{itemsOf}
 use Rattle.operation.specs.Writing.{writing}
-use Rattle.operation.proofs.Marks.{points, item}
+use Rattle.operation.proofs.RowFaults.{row-faulty, pointed-at}
 use Rattle.operation.proofs.Readings.{either-row}
 
 -- the items of a table are those of the parameters that it makes
@@ -102,5 +102,5 @@ module _ (kind : ℕ) (id : D.Id) (specifier count : ℕ) (t : List ℕ) (source
       go row (refused m c) q r =
           let a : n ≡ m = cc in
           let b : d ≡ c = cc in
-          let (x, mem, _, mark) = item (points row (itemsFrom t 0 count) q) (λ k. g (a ∙ k)) in
+          let (x, mem, mark) = pointed-at (row-faulty row (itemsFrom t 0 count) q) (λ k. g (a ∙ k)) in
           omega (arith, rw zero-add at (mark-below t 0 count x mem))

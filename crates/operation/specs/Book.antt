@@ -21,6 +21,10 @@ pub data Each {A : Type 0} (P : A → Type 0) : List A → Type 0 where
   none : Each P []
   more : {x : A} {xs : List A} → P x → Each P xs → Each P (x ∷ xs)
 
+-- what the row names and may occur once does
+abbrev pub Once : Row → List ℕ → Type 0
+Once row ks = (k : ℕ) → named row k ≡ true → repeats k ≡ false → times k ks ≤ 1
+
 pub record Fits (row : Row) (ks : List ℕ) : Type 0 where
   pub kept : Each (Kept ks) row
-  pub once : (k : ℕ) → named row k ≡ true → repeats k ≡ false → times k ks ≤ 1
+  pub once : Once row ks

@@ -4,7 +4,7 @@ use mathlib.Core.Path.{_≡_}
 use mathlib.Core.Bool.{true, false}
 use mathlib.Core.List.{List, _∷_, _++_, map}
 use Rattle.operation.specs.Row.{Row, Line, must, oneOf, may, Item, numberOf, onLine, named, repeats}
-use Rattle.operation.specs.Book.{times, Each}
+use Rattle.operation.specs.Book.{times, Each, Once}
 
 abbrev pub keysOf : List Item → List ℕ
 keysOf = map λ x. x .is
@@ -19,10 +19,6 @@ pub data Last {A : Type 0} (P : A → Type 0) : List A → A → Type 0 where
   later : {x y : A} {xs : List A} → Last P xs x → Last P (y ∷ xs) x
 
 -- ---- what a row asks of the keys of a run
--- what it names and may occur once does
-abbrev pub Once : Row → List ℕ → Type 0
-Once row ks = (k : ℕ) → named row k ≡ true → repeats k ≡ false → times k ks ≤ 1
-
 -- nothing meets the line, which asks for this number
 abbrev pub Unmet : List ℕ → Line → Type 0
 Unmet ks (must j) = times j ks ≡ 0

@@ -8,7 +8,6 @@ pub mod Demands
 pub mod Judge
 pub mod Finding
 pub mod Newcomers
-pub mod Points
 pub mod Coded
 pub mod Firsts
 pub mod Noting
