@@ -1,7 +1,7 @@
 //! Seeded cases for the reader and the writer.
 
 mod damage;
-mod draft;
+pub(crate) mod draft;
 mod read_cases;
 mod write_cases;
 
@@ -13,18 +13,18 @@ use crate::rows::{self, Must, Row, DIGITS, INVOKE, RESULT, ROWS};
 
 /// Numbers at the edges of the three identifier forms, and others around the
 /// register's.
-const NUMBERS: [u16; 28] = [
+pub(crate) const NUMBERS: [u16; 28] = [
     0, 7, 10, 29, 30, 31, 32, 33, 63, 64, 100, 105, 116, 123, 126, 127, 128, 129, 153, 200, 242,
     255, 256, 4095, 8191, 8192, 16382, 16383,
 ];
 
 /// The numbers of the register: other rows name them, this one may not.
-const REGISTER: [u16; 17] = [
+pub(crate) const REGISTER: [u16; 17] = [
     1, 2, 3, 4, 5, 6, 8, 9, 17, 21, 22, 32, 105, 116, 123, 153, 242,
 ];
 
 /// A number that no row names, for filling up to a size.
-const FILLER: u16 = 200;
+pub(crate) const FILLER: u16 = 200;
 
 /// One parameter as the generator draws it.
 #[derive(Clone, Copy)]

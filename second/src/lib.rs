@@ -3,6 +3,7 @@
 
 pub mod cases;
 pub mod corpus;
+pub mod directed;
 pub mod generate;
 pub mod listing;
 pub mod random;

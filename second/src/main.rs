@@ -7,7 +7,7 @@ use std::process::ExitCode;
 const USAGE: &str = "usage:
   second list < FILE
   second cases READ_COUNT WRITE_COUNT SEED > FILE
-  second corpus SEED COUNT > FILE
+  second corpus > FILE
   second report READ_COUNT WRITE_COUNT SEED
 ";
 
@@ -33,7 +33,7 @@ fn run(words: &[String]) -> Option<io::Result<()>> {
     match (command.as_str(), &numbers?[..]) {
         ("list", []) => Some(list()),
         ("cases", &[reads, writes, seed]) => Some(put_cases(reads, writes, seed)),
-        ("corpus", &[seed, count]) => Some(put(&corpus::corpus(seed, count))),
+        ("corpus", []) => Some(put(&corpus::corpus())),
         ("report", &[reads, writes, seed]) => {
             Some(put(report::report(reads, writes, seed).as_bytes()))
         }

@@ -61,6 +61,23 @@ pub struct Identifier {
     pub constructor: bool,
 }
 
+impl Identifier {
+    pub const fn primitive(number: u16) -> Identifier {
+        Identifier {
+            number,
+            constructor: false,
+        }
+    }
+
+    /// The same number in the other form.
+    pub const fn twin(self) -> Identifier {
+        Identifier {
+            number: self.number,
+            constructor: !self.constructor,
+        }
+    }
+}
+
 /// The refusals 12, 13 and 14. Repeat and Both hold the index of the
 /// parameter in order of occurrence; the reader turns it into a place.
 #[derive(Debug, PartialEq, Eq)]
@@ -76,6 +93,14 @@ pub fn find(kind: u8, specifier: u8) -> Option<&'static Row> {
 }
 
 impl Must {
+    /// The numbers of which one must occur, in the paper's order.
+    pub fn members(&self) -> Vec<u16> {
+        match *self {
+            One(only) => vec![only],
+            Either(first, second) => vec![first, second],
+        }
+    }
+
     fn holds(&self, number: u16) -> bool {
         match *self {
             One(only) => only == number,

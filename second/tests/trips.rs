@@ -4,7 +4,6 @@ use second::cases::{answer_read, answer_write, read_random, write_random};
 use second::generate::{read_case, write_case};
 use second::reader::{self, read};
 use second::writer::{self, write, Head};
-use second::{corpus, listing};
 use std::collections::BTreeMap;
 
 const CASES: usize = 60_000;
@@ -111,16 +110,4 @@ fn every_writer_number_is_reached() {
     for need in [127, 128, 255, 256, 4095, 4096, 4097, 65539, 65541] {
         assert!(needs.contains_key(&need), "{need}");
     }
-}
-
-#[test]
-fn a_corpus_gives_a_line_for_each_component() {
-    let mut cuts = 0;
-    for seed in 0..20 {
-        let lines = listing::list(&corpus::corpus(seed, 200));
-        let cut = lines.ends_with("cut\n");
-        cuts += usize::from(cut);
-        assert_eq!(lines.lines().count(), 1 + 200 + usize::from(cut));
-    }
-    assert!(cuts > 0 && cuts < 20);
 }

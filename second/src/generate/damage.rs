@@ -187,9 +187,7 @@ fn identifier_cut(random: &mut Random, draft: &mut Draft) {
         2 => vec![first, high],
         _ => vec![first, high, 0x80, 0x80],
     };
-    let mut last = Element::new(kept, Vec::new());
-    last.length = Length::Raw(Vec::new());
-    draft.parameters.push(last);
+    draft.parameters.push(Element::raw(kept));
 }
 
 /// One of the length fields at any level.

@@ -55,6 +55,15 @@ impl Element {
         }
     }
 
+    /// Octets that may be less than an element, or no element at all.
+    pub fn raw(octets: Vec<u8>) -> Element {
+        Element {
+            identifier: octets,
+            length: Length::Raw(Vec::new()),
+            contents: Vec::new(),
+        }
+    }
+
     fn put(&self, octets: &mut Vec<u8>) {
         octets.extend(&self.identifier);
         octets.extend(self.length.octets(self.contents.len()));
@@ -98,36 +107,36 @@ pub fn identifier(number: u16, constructor: bool) -> Vec<u8> {
     }
 }
 
-pub fn element(random: &mut Random, drawn: Drawn) -> Element {
+pub(super) fn element(random: &mut Random, drawn: Drawn) -> Element {
     Element::new(
         identifier(drawn.number, drawn.constructor),
         random.octets(drawn.length),
     )
 }
 
+/// What the caller gives: in an INVOKE anything, as it is ignored.
+fn draw_caller(random: &mut Random, row: &Row) -> u8 {
+    if row.kind != INVOKE {
+        row.specifier
+    } else if random.percent(50) {
+        draw_rowless(random, row.kind)
+    } else {
+        random.octet()
+    }
+}
+
 impl Draft {
-    /// A component that the row takes.
-    pub fn valid(random: &mut Random, row: &'static Row) -> Draft {
+    /// A component of the row's type and specifier with one ID octet. An
+    /// INVOKE has 0, which has no row, from the caller.
+    pub fn of(row: &'static Row, parameters: Vec<Element>) -> Draft {
         let invoke = row.kind == INVOKE;
-        let id_count = if invoke { random.below(3) } else { 1 };
-        let id = Element::new(vec![0xCF], random.octets(id_count));
-        let operation = invoke.then(|| Element::new(vec![0xD1], vec![0x09, row.specifier]));
-        let specifier = if !invoke {
-            row.specifier
-        } else if random.percent(50) {
-            draw_rowless(random, row.kind)
-        } else {
-            random.octet()
-        };
-        let drawn = draw_parameters(random, row);
-        let parameters = drawn.iter().map(|one| element(random, *one)).collect();
         Draft {
             row,
             kind: row.kind,
-            specifier,
+            specifier: if invoke { 0 } else { row.specifier },
             outer: Length::Shortest,
-            id: Some(id),
-            operation,
+            id: Some(Element::new(vec![0xCF], vec![0x05])),
+            operation: invoke.then(|| Element::new(vec![0xD1], vec![0x09, row.specifier])),
             set_identifier: Some(0xF2),
             set_length: Length::Shortest,
             parameters,
@@ -136,6 +145,23 @@ impl Draft {
             behind_set: Vec::new(),
             behind: Vec::new(),
         }
+    }
+
+    /// A component that the row takes.
+    pub fn valid(random: &mut Random, row: &'static Row) -> Draft {
+        let id_count = if row.kind == INVOKE {
+            random.below(3)
+        } else {
+            1
+        };
+        let id = random.octets(id_count);
+        let caller = draw_caller(random, row);
+        let drawn = draw_parameters(random, row);
+        let parameters = drawn.iter().map(|one| element(random, *one)).collect();
+        let mut draft = Draft::of(row, parameters);
+        draft.id = Some(Element::new(vec![0xCF], id));
+        draft.specifier = caller;
+        draft
     }
 
     pub fn set_contents(&self) -> Vec<u8> {

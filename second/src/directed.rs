@@ -1,0 +1,98 @@
+//! Directed cases: each rule of the paper met on purpose, at each place where
+//! it can be met. They are made from the rows and the register, so that a row
+//! more brings its own cases.
+
+mod identifiers;
+mod layout;
+mod limits;
+mod lists;
+mod names;
+mod order;
+mod parts;
+mod row_cases;
+
+use crate::generate::draft::{identifier, Draft, Element};
+use crate::rows::{self, Identifier, Row, RESULT, ROWS};
+use lists::List;
+use std::collections::HashSet;
+
+/// A component and the specifier that the caller gives with it.
+pub struct Case {
+    pub specifier: u8,
+    pub component: Vec<u8>,
+}
+
+pub fn cases() -> Vec<Case> {
+    let groups = [
+        ROWS.iter().flat_map(of_row).collect(),
+        names::every_specifier(),
+        identifiers::cases(),
+        layout::cases(),
+        order::cases(),
+        limits::cases(),
+    ];
+    each_once(groups.into_iter().flatten())
+}
+
+/// Two rules may ask for the same octets.
+fn each_once(cases: impl Iterator<Item = Case>) -> Vec<Case> {
+    let mut met = HashSet::new();
+    let fresh = |case: &Case| met.insert((case.specifier, case.component.clone()));
+    cases.filter(fresh).collect()
+}
+
+impl Case {
+    fn of(draft: &Draft) -> Case {
+        Case {
+            specifier: draft.specifier,
+            component: draft.octets(),
+        }
+    }
+}
+
+fn of_row(row: &'static Row) -> Vec<Case> {
+    let mut cases = cases_of(row, &row_cases::lists(row));
+    cases.extend(cases_of(row, &names::lists(row)));
+    cases.push(names::of_no_octets(row));
+    cases.extend(names::other_callers(row));
+    cases
+}
+
+fn cases_of(row: &'static Row, lists: &[List]) -> Vec<Case> {
+    let drafts = lists.iter().map(|list| draft(row, list));
+    drafts.map(|draft| Case::of(&draft)).collect()
+}
+
+/// Contents of a size that the parameter may have, of octets that would read
+/// as parameters where a reader strays into them.
+fn parameter(one: Identifier) -> Element {
+    let count = match one.number {
+        5 => 0,
+        22 => 1,
+        2 | 3 | 6 => 2,
+        21 => 3,
+        9 => 4,
+        8 => 5,
+        number => usize::from(number % 4),
+    };
+    Element::new(identifier(one.number, one.constructor), filling(count))
+}
+
+fn filling(count: usize) -> Vec<u8> {
+    [0x85, 0x00].into_iter().cycle().take(count).collect()
+}
+
+fn draft(row: &'static Row, list: &[Identifier]) -> Draft {
+    Draft::of(row, list.iter().map(|one| parameter(*one)).collect())
+}
+
+/// A row that names nothing.
+fn nameless() -> &'static Row {
+    rows::find(RESULT, 26).expect("the FlashRequest result's row")
+}
+
+/// A component of this type with an empty set.
+fn of_type(kind: u8) -> Draft {
+    let row = ROWS.iter().find(|row| row.kind == kind);
+    draft(row.expect("a row of each type"), &[])
+}

@@ -1,0 +1,197 @@
+//! The layout (4 to 9) at each element of both types.
+
+use super::parts::{parts, sound, Part, TYPES};
+use super::{filling, Case};
+use crate::generate::draft::{Draft, Element, Length};
+use crate::rows::INVOKE;
+
+pub fn cases() -> Vec<Case> {
+    let mut cases = Vec::new();
+    for kind in TYPES {
+        for part in parts(kind) {
+            cases.extend(other_octets(kind, part));
+            cases.extend(other_lengths(kind, part));
+            cases.extend(endings(kind, part));
+        }
+        cases.extend(cuts(kind));
+        cases.extend(id_sizes(kind));
+        cases.extend(left_over(kind));
+        cases.extend(left_out(kind));
+    }
+    cases.extend(operations());
+    cases
+}
+
+/// Each bit of the first octet changed, the rest sound.
+fn other_octets(kind: u8, part: Part) -> Vec<Case> {
+    let changed = |bit| {
+        let mut draft = sound(kind);
+        let octet = part.identifier(&draft)[0] ^ (1u8 << bit);
+        part.begin_with(&mut draft, octet);
+        Case::of(&draft)
+    };
+    (0..8).map(changed).collect()
+}
+
+/// A length of another form or another value, the rest sound.
+fn other_lengths(kind: u8, part: Part) -> Vec<Case> {
+    let lengths = [
+        Length::Wide(0x81),
+        Length::Wide(0x82),
+        Length::Off(1),
+        Length::Off(-1),
+        Length::Off(200),
+        Length::Off(4096),
+        Length::Raw(Vec::new()),
+        Length::Raw(vec![0x80]),
+        Length::Raw(vec![0x83, 0x00, 0x00, 0x05]),
+    ];
+    let changed = |length| {
+        let mut draft = sound(kind);
+        part.set_length(&mut draft, length);
+        Case::of(&draft)
+    };
+    lengths.map(changed).into()
+}
+
+/// Length fields of wrong form, not shortest, or cut where they end.
+const BAD_FIELDS: [&[u8]; 16] = [
+    &[],
+    &[0x80],
+    &[0x83],
+    &[0xFF],
+    &[0x81],
+    &[0x82],
+    &[0x82, 0x00],
+    &[0x82, 0x01],
+    &[0x82, 0xFF],
+    &[0x81, 0x00],
+    &[0x81, 0x05],
+    &[0x81, 0x7F],
+    &[0x82, 0x00, 0x00],
+    &[0x82, 0x00, 0x05],
+    &[0x82, 0x00, 0x80],
+    &[0x82, 0x00, 0xFF],
+];
+
+/// Each form of the length with the contents' count that it gives.
+const FIELDS: [(&[u8], usize); 6] = [
+    (&[0x01], 1),
+    (&[0x03], 3),
+    (&[0x7F], 127),
+    (&[0x81, 0x80], 128),
+    (&[0x81, 0xFF], 255),
+    (&[0x82, 0x01, 0x00], 256),
+];
+
+/// The part stands last and all its parents end with it: within its
+/// identifier, in its length field, one octet before its contents end, and
+/// where they end.
+fn endings(kind: u8, part: Part) -> Vec<Case> {
+    let identifier = part.identifier(&sound(kind));
+    let mut ends: Vec<Vec<u8>> = (0..identifier.len())
+        .map(|kept| identifier[..kept].to_vec())
+        .collect();
+    for field in BAD_FIELDS {
+        ends.push([&identifier, field].concat());
+    }
+    for (field, count) in FIELDS {
+        for there in [0, count - 1, count] {
+            ends.push([&identifier, field, &filling(there)].concat());
+        }
+    }
+    ends.iter()
+        .map(|octets| ending(kind, part, octets))
+        .collect()
+}
+
+/// These octets in place of the part and of all behind it.
+fn ending(kind: u8, part: Part, octets: &[u8]) -> Case {
+    let mut draft = sound(kind);
+    let last = Element::raw(octets.to_vec());
+    match part {
+        Part::Whole => {
+            return Case {
+                specifier: draft.specifier,
+                component: octets.to_vec(),
+            }
+        }
+        Part::Parameter(index) => {
+            draft.parameters.truncate(index);
+            draft.parameters.push(last);
+            return Case::of(&draft);
+        }
+        Part::Set => draft.behind_set = octets.to_vec(),
+        Part::Operation => draft.operation = Some(last),
+        Part::Id => {
+            draft.id = Some(last);
+            draft.operation = None;
+        }
+    }
+    draft.set_identifier = None;
+    Case::of(&draft)
+}
+
+/// The body, or the set in it, cut after each of its octets.
+fn cuts(kind: u8) -> Vec<Case> {
+    let whole = sound(kind);
+    let body = (0..whole.body().len()).map(|kept| Draft {
+        body_cut: Some(kept),
+        ..whole.clone()
+    });
+    let set = (0..whole.set_contents().len()).map(|kept| Draft {
+        set_cut: Some(kept),
+        ..whole.clone()
+    });
+    body.chain(set).map(|draft| Case::of(&draft)).collect()
+}
+
+/// ID octets of each count, few of which a type allows.
+fn id_sizes(kind: u8) -> Vec<Case> {
+    let of_count = |count| {
+        let mut draft = sound(kind);
+        draft.id = Some(Element::new(vec![0xCF], filling(count)));
+        Case::of(&draft)
+    };
+    [0, 1, 2, 3, 4, 128, 256].map(of_count).into()
+}
+
+/// Octets behind the set and behind the component, alone and together.
+fn left_over(kind: u8) -> Vec<Case> {
+    let mut cases = Vec::new();
+    for behind_set in 0..3 {
+        for behind in 0..3 {
+            let mut draft = sound(kind);
+            draft.behind_set = filling(behind_set);
+            draft.behind = filling(behind);
+            cases.push(Case::of(&draft));
+        }
+    }
+    cases
+}
+
+/// An element left out while the rest is sound, and the operation code in the
+/// type that has none.
+fn left_out(kind: u8) -> [Case; 4] {
+    let mut drafts = [sound(kind), sound(kind), sound(kind), sound(kind)];
+    drafts[0].id = None;
+    drafts[1].operation = None;
+    drafts[2].set_identifier = None;
+    drafts[3].operation = sound(INVOKE).operation;
+    drafts.map(|draft| Case::of(&draft))
+}
+
+/// Operation codes of each size, with the right family and with others.
+fn operations() -> Vec<Case> {
+    let mut cases = Vec::new();
+    for family in (0..8).map(|bit| 9 ^ (1u8 << bit)).chain([9, 0]) {
+        for count in [0, 1, 2, 3, 128] {
+            let mut draft = sound(INVOKE);
+            let mut contents = vec![family, 101];
+            contents.resize(count, 101);
+            draft.operation = Some(Element::new(vec![0xD1], contents));
+            cases.push(Case::of(&draft));
+        }
+    }
+    cases
+}

@@ -1,0 +1,101 @@
+//! Two faults at once: the earliest from left to right is given, the first
+//! asked at one element, and the layout's before the row's.
+
+use super::parts::{parts, sound, Part, TYPES};
+use super::{filling, parameter, Case};
+use crate::generate::draft::{Draft, Length};
+use crate::rows::{Identifier, INVOKE};
+
+#[derive(Clone, Copy)]
+enum Fault {
+    Octet,
+    Field,
+    PastTheEnd,
+    LeftOver,
+    Size,
+    Family,
+}
+
+const FAULTS: [Fault; 6] = [
+    Fault::Octet,
+    Fault::Field,
+    Fault::PastTheEnd,
+    Fault::LeftOver,
+    Fault::Size,
+    Fault::Family,
+];
+
+pub fn cases() -> Vec<Case> {
+    let mut cases = Vec::new();
+    for kind in TYPES {
+        let faults = faults(kind);
+        for (index, first) in faults.iter().enumerate() {
+            cases.extend(
+                faults[index..]
+                    .iter()
+                    .map(|other| both(kind, *first, *other)),
+            );
+            cases.extend(
+                refused_by_row(kind)
+                    .into_iter()
+                    .map(|draft| broken(draft, *first)),
+            );
+        }
+        cases.extend(refused_by_row(kind).iter().map(Case::of));
+    }
+    cases
+}
+
+/// Every fault at every element; all parameters but two are alike in this.
+fn faults(kind: u8) -> Vec<(Part, Fault)> {
+    let parts = parts(kind).into_iter();
+    let kept = parts.filter(|part| !matches!(part, Part::Parameter(2..)));
+    kept.flat_map(|part| FAULTS.map(|fault| (part, fault)))
+        .collect()
+}
+
+fn both(kind: u8, first: (Part, Fault), other: (Part, Fault)) -> Case {
+    let mut draft = sound(kind);
+    put(&mut draft, first);
+    broken(draft, other)
+}
+
+fn broken(mut draft: Draft, fault: (Part, Fault)) -> Case {
+    put(&mut draft, fault);
+    Case::of(&draft)
+}
+
+/// What an element cannot have is left out: the case is then made twice, and
+/// kept once.
+fn put(draft: &mut Draft, (part, fault): (Part, Fault)) {
+    match (fault, part) {
+        (Fault::Octet, _) => part.begin_with(draft, 0x00),
+        (Fault::Field, _) => part.set_length(draft, Length::Raw(vec![0x80])),
+        (Fault::PastTheEnd, _) => part.set_length(draft, Length::Off(300)),
+        (Fault::LeftOver, Part::Whole) => draft.behind = filling(1),
+        (Fault::LeftOver, Part::Set) => draft.behind_set = filling(2),
+        (Fault::Size, Part::Id) => draft.id.as_mut().expect("an ID").contents = filling(3),
+        (Fault::Size, Part::Operation) => operation(draft).push(0x00),
+        (Fault::Family, Part::Operation) => operation(draft)[0] = 0x08,
+        _ => {}
+    }
+}
+
+fn operation(draft: &mut Draft) -> &mut Vec<u8> {
+    &mut draft.operation.as_mut().expect("an INVOKE").contents
+}
+
+/// Sound in its layout, but without a row, with a named one again, or with
+/// what is mandatory missing.
+fn refused_by_row(kind: u8) -> [Draft; 3] {
+    let mut drafts = [sound(kind), sound(kind), sound(kind)];
+    drafts[0].specifier = 0;
+    if kind == INVOKE {
+        operation(&mut drafts[0])[1] = 0;
+    }
+    drafts[1]
+        .parameters
+        .push(parameter(Identifier::primitive(105)));
+    drafts[2].parameters.remove(1);
+    drafts
+}
