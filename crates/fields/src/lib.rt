@@ -1,9 +1,10 @@
-// The listing: tagged fields are read from one descriptor, and lines are written to another. No contract can say what is
-// read or written, so these functions are proved safe and ending, and what they call says what a field and a line are.
+// The loop that reads and writes: tagged fields are read from one descriptor, and lines are written to another. No
+// contract can say what is read or written, so these functions are proved safe and ending and state no outcome. What a
+// field does to the run is `lines::list_field`, which states all of it.
 use lines::Field;
-use lines::Line;
-use operation::Reading;
-use std::num::wrapping_add_u64;
+use lines::Kept;
+use lines::LONGEST;
+use lines::Listed;
 ghost use Prim.Native.Nat.{_≤_};
 ghost use lib.ListN.{length};
 
@@ -28,9 +29,7 @@ struct Head {
 // The listing between two fields.
 struct Run {
     left: Left,
-    specifier: u8,
-    // How many components there were.
-    item: u64,
+    kept: Kept,
     // How many octets of lines wait to be written.
     filled: usize,
     more: bool,
@@ -100,18 +99,15 @@ fn take_header(from: i32, piece: &mut [u8], left: Left) -> Head {
 
 // ---- output
 
-// A line behind those that wait, which are written first where there is no room for it; the empty output has room.
-fn add_line(to: i32, item: u64, reading: Reading, text: &mut [u8], filled: usize) -> usize {
-    match lines::write_line(item, reading, text, filled) {
-        Line::Written(next) => next,
-        Line::NoRoom => {
-            io::write_all(to, front(text, filled));
-            match lines::write_line(item, reading, text, 0) {
-                Line::Written(next) => next,
-                Line::NoRoom => 0,
-            }
+// Where the next line goes: behind those that wait, which are written first where the longest has no room behind them.
+fn line_place(to: i32, text: &[u8], filled: usize) -> usize {
+    if filled <= text.len() {
+        if LONGEST <= text.len() - filled {
+            return filled;
         }
     }
+    io::write_all(to, front(text, filled));
+    0
 }
 
 // ---- fields
@@ -124,7 +120,7 @@ impl Run {
     }
 }
 
-// A whole field: a component is listed, a specifier is kept for the results behind it, and all else is skipped.
+// A whole field. The empty output has room for the longest line.
 fn list_field(
     to: i32,
     mut run: Run,
@@ -133,15 +129,15 @@ fn list_field(
     table: &mut [u16],
     text: &mut [u8],
 ) -> Run {
-    if tag == 1 {
-        let reading = operation::read(contents, run.specifier, table);
-        run.item = wrapping_add_u64(run.item, 1);
-        run.filled = add_line(to, run.item, reading, text, run.filled);
-        return run;
-    }
-    if tag == 2 {
-        if contents.len() == 1 {
-            run.specifier = contents[0];
+    let place = line_place(to, text, run.filled);
+    let kept = run.kept;
+    match lines::list_field(kept, tag, contents, table, text, place) {
+        Listed::Done { kept, at } => {
+            run.kept = kept;
+            run.filled = at;
+        }
+        Listed::NoRoom => {
+            run.filled = place;
         }
     }
     run
@@ -200,8 +196,7 @@ pub fn list(from: i32, to: i32, component: &mut [u8], table: &mut [u16]) {
     let text: &mut [u8] = &mut texts;
     let mut run = Run {
         left: Left { at: 0, end: 0 },
-        specifier: 0,
-        item: 0,
+        kept: Kept::start(),
         filled: 0,
         more: true,
         cut: false,

@@ -1,3 +1,7 @@
 pub mod Fronts
 pub mod Spelling
 pub mod Putting
+pub mod Stepping
+pub mod Following
+pub mod Fronting
+pub mod Inputs

@@ -1,5 +1,6 @@
-// The listing's input and output in octets: the header of a tagged field, and the line of a reading.
+// The listing on values and slices: the header of a tagged field, what a field does to the run, the line of a reading.
 use operation::Reading;
+use std::num::wrapping_add_u64;
 ghost use mathlib.Core.Path.{_≡_};
 ghost use Prim.Native.Nat.{_+_, _≤_, _<_};
 ghost use lib.ListN.{length};
@@ -8,6 +9,7 @@ ghost use Rattle.operation.specs.Told.{answerIn};
 ghost use Rattle.lines.specs.Header.{fieldAt};
 ghost use Rattle.lines.specs.Decimal.{decimal};
 ghost use Rattle.lines.specs.Line.{cell, row, lineOf, lineWritten, Front};
+ghost use Rattle.lines.specs.Listing.{tagged, start, after, listed, tableLeft, textLeft};
 
 pub enum Field {
     // A tag, and how many octets of contents follow.
@@ -21,6 +23,23 @@ pub enum Line {
     Written(usize),
     NoRoom,
 }
+
+// What is kept between two fields.
+pub struct Kept {
+    // For the results behind it.
+    pub specifier: u8,
+    // How many components there were.
+    pub item: u64,
+}
+
+pub enum Listed {
+    // What is kept behind the field, and where the octets behind its line start.
+    Done { kept: Kept, at: usize },
+    NoRoom,
+}
+
+// Five numbers of twenty digits, and the octet behind each.
+pub const LONGEST: usize = 105;
 
 fn wide(x: u8) -> usize
     ensures { λ r. ⌜ (r ≡ x) × (r < 256) ⌝ }
@@ -40,6 +59,70 @@ pub fn read_field(header: &[u8]) -> Field
     Field::Of {
         tag: header[0],
         size: high * 256 + low,
+    }
+}
+
+impl Kept {
+    pub fn start() -> Self
+        ensures { λ r. ⌜ r ≡ start ⌝ }
+    {
+        Kept {
+            specifier: 0,
+            item: 0,
+        }
+    }
+
+    // A component is counted, a specifier is kept for the results behind it, and all else is skipped.
+    pub fn after(mut self, tag: u8, contents: &[u8]) -> Self
+        ensures { λ r. ⌜ r ≡ after self (tagged tag (now (contents .entry))) ⌝ }
+    {
+        if tag == 1 {
+            self.item = wrapping_add_u64(self.item, 1);
+            return self;
+        }
+        if tag == 2 {
+            if contents.len() == 1 {
+                self.specifier = contents[0];
+            }
+        }
+        self
+    }
+}
+
+// A whole field: what is kept behind it, and where it is a component its line, into a lent text at a position. Where the
+// longest line has no room there, nothing changes.
+pub fn list_field(
+    kept: Kept,
+    tag: u8,
+    contents: &[u8],
+    table: &mut [u16],
+    text: &mut [u8],
+    at: usize,
+) -> Listed
+    ensures { λ r. ⌜ (r ≡ listed kept (tagged tag (now (contents .entry))) at (now (table .entry)) (now (text .entry)))
+        × (now (table .exit) ≡
+        tableLeft kept (tagged tag (now (contents .entry))) at (now (table .entry)) (now (text .entry)))
+        × (now (text .exit) ≡
+        textLeft kept (tagged tag (now (contents .entry))) at (now (table .entry)) (now (text .entry))) ⌝ }
+{
+    if text.len() < at {
+        return Listed::NoRoom;
+    }
+    if text.len() - at < LONGEST {
+        return Listed::NoRoom;
+    }
+    let behind = kept.after(tag, contents);
+    if tag != 1 {
+        return Listed::Done { kept: behind, at };
+    }
+    let reading = operation::read(contents, kept.specifier, table);
+    match write_line(behind.item, reading, text, at) {
+        Line::Written(next) => Listed::Done {
+            kept: behind,
+            at: next,
+        },
+        // Not reached: no line is longer than the longest.
+        Line::NoRoom => Listed::NoRoom,
     }
 }
 
@@ -77,8 +160,8 @@ fn write_row(
         × (now (out .exit) ≡ outputAfter (row item answer detail named other) at (now (out .entry))) ⌝ }
 {
     // From the line's end to its start, which is known last.
-    let mut text = [0u8; 105];
-    let fifth = number_before(other, b'\n', &mut text, 105);
+    let mut text = [0u8; LONGEST];
+    let fifth = number_before(other, b'\n', &mut text, LONGEST);
     let fourth = number_before(named, b' ', &mut text, fifth);
     let third = number_before(detail, b' ', &mut text, fourth);
     let second = number_before(answer, b' ', &mut text, third);

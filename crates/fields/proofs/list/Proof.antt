@@ -18,6 +18,9 @@ slice-aggregate-piece c = search needs
 slice-aggregate-text : tie.Need-slice-aggregate-text Inv-loop μ-loop
 slice-aggregate-text c = search needs
 
+start-requires : tie.Need-start-requires Inv-loop μ-loop
+start-requires c κs = search needs
+
 loop-holds : tie.Need-loop-holds Inv-loop μ-loop
 loop-holds c = search needs
 
@@ -71,6 +74,7 @@ list-spec =
     μ-loop
     slice-aggregate-piece
     slice-aggregate-text
+    start-requires
     loop-holds
     step-requires
     sub-turns

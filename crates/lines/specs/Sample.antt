@@ -1,0 +1,51 @@
+-- The paper's own listing, and inputs that are cut, computed.
+use mathlib.Core.Path.{_≡_, refl}
+use mathlib.Core.List.{[], _∷_, _++_}
+use Rattle.element.specs.Octets.{Octets}
+use Rattle.element.specs.Length.{lengthAt}
+use Rattle.element.specs.Identifier.{within, numbered, identifierAt}
+use Rattle.component.specs.Layout.{spanOf, contents, wanted, setAt, operation, invoke, result, headOf}
+use Rattle.component.specs.Layout.{parameter, parameterAt, parameters, layoutOf}
+use Rattle.component.specs.Shown.{specifierIn}
+use Rattle.operation.specs.Row.{key, numberOf, onLine, named, repeats, occurs, lastMark, once, present, single, judge}
+use Rattle.operation.specs.Row.{countNamed}
+use Rattle.operation.specs.Rows.{operations, find, rowOf}
+use Rattle.operation.specs.Reading.{itemOf, countOther, reading}
+use Rattle.operation.specs.Told.{told}
+use Rattle.lines.specs.Header.{fieldAt}
+use Rattle.lines.specs.Decimal.{digits, decimal}
+use Rattle.lines.specs.Line.{cell, row, lineOf}
+use Rattle.lines.specs.Listing.{after, lineFor, listing, fills, whole, inputFrom, inputOf}
+use Rattle.lines.specs.Listing.{headerLine, cutLine, printed}
+
+abbrev input : Octets
+input =
+    0x02 ∷ 0x00 ∷ 0x01 ∷ 0x04
+    ∷ 0x01 ∷ 0x00 ∷ 0x09 ∷ 0xEA ∷ 0x07 ∷ 0xCF ∷ 0x01 ∷ 0x05 ∷ 0xF2 ∷ 0x02 ∷ 0x85 ∷ 0x00
+    ∷ 0x01 ∷ 0x00 ∷ 0x02 ∷ 0xE9 ∷ 0x00 ∷ []
+
+-- `1 0 0 1 0` and `2 5 2 0 0`
+abbrev lines : Octets
+lines =
+    0x31 ∷ 0x20 ∷ 0x30 ∷ 0x20 ∷ 0x30 ∷ 0x20 ∷ 0x31 ∷ 0x20 ∷ 0x30 ∷ 0x0A
+    ∷ 0x32 ∷ 0x20 ∷ 0x35 ∷ 0x20 ∷ 0x32 ∷ 0x20 ∷ 0x30 ∷ 0x20 ∷ 0x30 ∷ 0x0A ∷ []
+
+pub sample : printed input ≡ headerLine ++ lines
+unfolding lengthAt within numbered identifierAt spanOf contents wanted setAt operation invoke result headOf parameter
+    parameterAt parameters layoutOf specifierIn key numberOf onLine named repeats occurs lastMark once present single judge
+    countNamed operations find rowOf itemOf countOther reading told fieldAt digits decimal cell row lineOf after lineFor
+    listing fills whole inputFrom inputOf printed
+sample = refl
+
+-- no field; a header of two octets; a specifier field of two octets of which one is there
+pub no-field : printed [] ≡ headerLine
+unfolding listing inputFrom inputOf printed
+no-field = refl
+
+pub header-cut : printed (0x02 ∷ 0x00 ∷ []) ≡ headerLine ++ cutLine
+unfolding fieldAt listing fills whole inputFrom inputOf printed
+header-cut = refl
+
+pub contents-cut : printed (0x02 ∷ 0x00 ∷ 0x02 ∷ 0x04 ∷ []) ≡ headerLine ++ cutLine
+unfolding fieldAt listing fills whole inputFrom inputOf printed
+contents-cut = refl
