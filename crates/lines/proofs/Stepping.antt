@@ -13,7 +13,8 @@ use Rattle.element.specs.Answer.{Answer, accepted, refused}
 use Rattle.element.specs.Field.{outputAfter}
 use Rattle.element.proofs.FieldLaws.{put-none, roomy}
 use Rattle.operation.specs.Reading.{reading, tableAfter}
-use Rattle.operation.specs.Told.{Told, told}
+use Rattle.operation.specs.Caller.{Told}
+use Rattle.operation.specs.Told.{told}
 use Rattle.lines.specs.declared.Kept as K
 use Rattle.lines.specs.declared.Line.the-variants as LV
 use Rattle.lines.specs.declared.Listed as S

@@ -2,21 +2,20 @@
 use mathlib.Core.Path.{_≡_, refl}
 use mathlib.Core.List.{[], _∷_, _++_}
 use Rattle.element.specs.Octets.{Octets}
-use Rattle.element.specs.Length.{lengthAt}
-use Rattle.element.specs.Identifier.{within, numbered, identifierAt}
-use Rattle.component.specs.Layout.{spanOf, contents, wanted, setAt, operation, invoke, result, headOf}
-use Rattle.component.specs.Layout.{parameter, parameterAt, parameters, layoutOf}
+use Rattle.element.specs.Decoded.{lengthAt, within, numbered, identifierAt}
+use Rattle.component.specs.Layout.{spanOf, contents, wanted, setAt, operation, invoke, result, headOf, parameter, parameterAt, parameters, layoutOf}
 use Rattle.component.specs.Shown.{specifierIn}
-use Rattle.operation.specs.Row.{key, numberOf, onLine, named, repeats, occurs, lastMark, once, present, single, judge}
-use Rattle.operation.specs.Row.{countNamed}
-use Rattle.operation.specs.Rows.{operations, find, rowOf}
-use Rattle.operation.specs.Reading.{itemOf, countOther, reading}
+use Rattle.operation.specs.Row.{key, numberOf, onLine, named, repeats}
+use Rattle.operation.specs.Judge.{occurs, lastMark, once, present, single, judge, countNamed}
+use Rattle.operation.specs.Rows.{operations}
+use Rattle.operation.specs.Finding.{find, rowOf}
+use Rattle.operation.specs.Items.{itemOf}
+use Rattle.operation.specs.Reading.{countOther, reading}
 use Rattle.operation.specs.Told.{told}
 use Rattle.lines.specs.Header.{fieldAt}
 use Rattle.lines.specs.Decimal.{digits, decimal}
 use Rattle.lines.specs.Line.{cell, row, lineOf}
-use Rattle.lines.specs.Listing.{after, lineFor, listing, fills, whole, inputFrom, inputOf}
-use Rattle.lines.specs.Listing.{headerLine, cutLine, printed}
+use Rattle.lines.specs.Listing.{after, lineFor, listing, fills, whole, inputFrom, inputOf, headerLine, cutLine, printed}
 
 abbrev input : Octets
 input =
