@@ -14,7 +14,7 @@ use Rattle.element.specs.Answer.{Answer, accepted, _>>=_}
 use Rattle.element.specs.Identifier.{IdentifierField}
 use Rattle.element.proofs.LengthLaws as L
 use Rattle.element.proofs.IdentifierLaws as I
-use Rattle.component.specs.Layout.{Span, contents, spanOf, wanted, setAt, operation, invoke, result, Head, headOf, parameter, parameterAt, parameters, Layout, layoutOf}
+use Rattle.component.specs.Layout.{Span, contents, spanOf, wanted, setAt, operation, invoke, result, Head, headOf, headAt, headFrom, parameter, parameterAt, parameters, Layout, layoutOf, layoutAt, layoutBehind}
 use Rattle.component.specs.Table.{Entry, next}
 use Rattle.component.specs.Grammar.{Parameter, Element, laid, Parameters, Component, Laid, invoked, answered, parametersOf, kindOf, identifierOf, specifierOf}
 use Rattle.component.specs.Grammar as G
@@ -153,7 +153,7 @@ module _ (s : Octets) where
 
   whole : {kind : ℕ} {body : Octets} {P : Head → Type 0} → Element (kind ∷ []) body s → eqb kind 0xE9 || eqb kind 0xEA ≡ true → length s ≤ 4096 →
       ((x : Span) → Inside body [] (length s) x → Accepts P (if (eqb kind 0xE9) (invoke s x) (result s x))) → Accepts P (headOf s)
-  unfolding headOf
+  unfolding headAt headFrom
   whole w t h k =
       let e : Stands 0 s [] = record { octets = sym (append-nil s) } in
       rw (first w e, lt-ltb 0 (length s) (omega (arith, longer w)), le-leb (length s) 4096, t)
@@ -205,7 +205,7 @@ pub record Reads {s : Octets} {c : Component} (x : Laid c s) (l : Layout) : Type
 
 pub complete : {c : Component} {s : Octets} (x : Laid c s) → length s ≤ 4096 → length (parametersOf c) ≤ 64 →
     (l : Layout) × (layoutOf s ≡ accepted l) × Reads x l
-unfolding layoutOf specifierIn
+unfolding layoutAt layoutBehind specifierIn
 complete {c} {s} x h k = taken
     (then (head-of x h) λ y a.
     then (parameters-of s (a .holds) 64 (y .set .end) (a .set .starts) (omega arith) (omega arith) k) λ es b.

@@ -1,7 +1,6 @@
 -- What an answer ends in: a value of which P holds, or a refusal of which Q holds; followed step by step, as `do` goes.
 use Prim.Native.Nat.{ℕ, _<_, _≤_}
 use mathlib.Core.Path.{_≡_, refl}
-use mathlib.Core.Logic.{_⊎_, inl, inr}
 use mathlib.Core.Bool.{Bool, true, false, _||_}
 use lib.Dec.{ltb, leb, eqb}
 use borrow.Author.Tests.{ltb-true, ltb-false, leb-true, leb-false, eqb-true, eqb-false, ne-eqb}
@@ -24,14 +23,6 @@ module _ {A : Type 0} {P : A → Type 0} {Q : ℕ → ℕ → Type 0} where
       let g : d ≡ c = cc in
       rw (f, g) at q
 
-  pub so : {R : A → Type 0} {r : Answer A} → Ends P Q r → ((x : A) → P x → R x) → Ends R Q r
-  so (gives {a} p) k = gives (k a p)
-  so (stops q) k = stops q
-
-  pub lift : {S : ℕ → ℕ → Type 0} {r : Answer A} → ((n d : ℕ) → Q n d → S n d) → Ends P Q r → Ends P S r
-  lift f (gives p) = gives p
-  lift f (stops {n} {d} q) = stops (f n d q)
-
   pub then : {B : Type 0} {R : B → Type 0} {r : Answer A} {f : A → Answer B} → Ends P Q r → ((x : A) → P x → Ends R Q (f x)) → Ends R Q (r >>= f)
   then (gives {a} p) k = k a p
   then (stops q) k = stops q
@@ -53,12 +44,3 @@ module _ {A : Type 0} {P : A → Type 0} (Q : ℕ → ℕ → Type 0) where
 
   pub either : {x a b n d : ℕ} {r : Answer A} → Q n d → (((x ≡ a → ⊥) → x ≡ b) → Ends P Q r) → Ends P Q (check (eqb x a || eqb x b) n d >> r)
   either {x} {a} {b} q k = ask (eqb x a || eqb x b) (λ _. q) (λ e. k (λ h. eqb-true x b (rw (ne-eqb x a h) at e)))
-
-  -- one of two numbers, or neither
-  pub one-of : {x a b n d : ℕ} {r : Answer A} → ((x ≡ a → ⊥) → (x ≡ b → ⊥) → Q n d) → ((x ≡ a) ⊎ (x ≡ b) → Ends P Q r) → Ends P Q (check (eqb x a || eqb x b) n d >> r)
-  one-of {x} {a} {b} {n} {d} {r} q k = go (eqb x a) (eqb x b) refl refl
-    where
-      go : (t u : Bool) → eqb x a ≡ t → eqb x b ≡ u → Ends P Q (check (t || u) n d >> r)
-      go true u e f = k (inl (eqb-true x a e))
-      go false true e f = k (inr (eqb-true x b f))
-      go false false e f = stops (q (eqb-false x a e) (eqb-false x b f))

@@ -17,7 +17,11 @@ use Rattle.component.specs.Composable.{Identified}
 use Rattle.component.specs.Part.{fits}
 use Rattle.component.specs.Composing.{entryStands, entriesFrom}
 use Rattle.component.proofs.Taken.{taken, passed}
-use Rattle.component.proofs.Laying.{numbers-length}
+
+pub numbers-length : (es : List Entry) → length (numbers es) ≡ 4 * length es
+unfolding numbers
+numbers-length [] = refl
+numbers-length (e ∷ es) = omega (arith, numbers-length es)
 
 module _ (t : List ℕ) (s : Octets) where
   entries-shown : {es : List Entry} {ps : List Parameter} → Pairwise (Shows s) es ps → Identified ps →

@@ -4,10 +4,7 @@ pub mod Ends
 pub mod Inside
 pub mod Walk
 pub mod Refusing
-pub mod Walking
 pub mod Laying
-pub mod Opening
-pub mod Sound
 pub mod Composes
 pub mod Complete
 pub mod Deciding
@@ -21,7 +18,6 @@ pub mod Measuring
 pub mod Emission
 pub mod Outcome
 pub mod Asking
-pub mod Specifier
 pub mod Taken
 pub mod Sizes
 pub mod Entries

@@ -7,7 +7,7 @@ use borrow.Author.Tests.{le-leb, lt-leb}
 use native.Mathlib.Omega.{arith}
 use native.Mathlib.Nat.{zero-add}
 use Rattle.element.specs.Octets.{Octets}
-use Rattle.element.specs.Answer.{Answer, accepted, refused, _>>=_}
+use Rattle.element.specs.Answer.{Answer, accepted, refused}
 use Rattle.element.specs.Field.{put}
 use Rattle.component.specs.declared.Id as D
 use Rattle.component.specs.Composed.{setOf, composed}
@@ -17,13 +17,9 @@ use Rattle.component.specs.Table.{parametersFrom, componentOf}
 use Rattle.component.specs.Emitting.{Put, headOctets, AllStand}
 use Rattle.component.proofs.Putting.{then}
 use Rattle.component.proofs.Composition as composition
-use Rattle.component.proofs.Taken.{taken}
+use Rattle.component.proofs.Taken.{taken, stopped}
 use Rattle.component.proofs.Measuring.{sizesOf, Ready, ready}
 use Rattle.component.proofs.Emission.{listed, stand}
-
-stopped : {A B C : Type 0} (a : Answer A) (f : A → B) (g : A → Answer C) {n d : ℕ} → (a >>= λ x. accepted (f x)) ≡ refused n d → (a >>= g) ≡ refused n d
-stopped (accepted x) f g e = let z : _≡_ {A = ℕ} 0 1 = cc in absurd (omega arith)
-stopped (refused n d) f g e = cc
 
 abbrev Outcome : (a : Answer Octets) (out : Octets) (told : Answer ℕ) (after : Octets) → Type 0
 Outcome a out told after = (told ≡ written a) × (after ≡ outputAfter out a)

@@ -6,25 +6,40 @@ use Rattle.element.specs.Answer.{Answer, accepted, refused}
 use Rattle.element.proofs.Outcomes.{one-told}
 use Rattle.component.specs.declared.Count as C
 use Rattle.component.specs.declared.Count.the-variants as CV
-use Rattle.component.specs.declared.Layout as Y
-use Rattle.component.specs.declared.Layout.the-variants as YV
+use Rattle.component.specs.declared.Head as H
+use Rattle.component.specs.declared.Head.the-variants as HV
+use Rattle.component.specs.declared.Heading as G
+use Rattle.component.specs.declared.Parameter as P
+use Rattle.component.specs.declared.Parameter.the-variants as PV
 use Rattle.component.specs.declared.Measured as M
 use Rattle.component.specs.declared.Measured.the-variants as MV
-use Rattle.component.specs.Outline.{Outline}
+use Rattle.component.specs.Table.{Entry}
 use Rattle.component.specs.Composing.{Sizes}
-use Rattle.component.specs.Told.{countIn, outlineIn, measureIn}
+use Rattle.component.specs.Told.{headingIn, entryIn, countIn, measureIn}
 
--- `fill_layout` and `read_layout`
-abbrev layoutFor : Answer Outline → Y.Layout
-layoutFor (accepted o) = YV.Accepted (o .heading) (o .count)
-layoutFor (refused n d) = YV.Refused n d
+-- `head_from`
+abbrev headFor : Answer G.Heading → H.Head
+headFor (accepted g) = HV.Found g
+headFor (refused n d) = HV.Refused n d
 
-same-layout : (x : Y.Layout) → layoutFor (outlineIn x) ≡ x
-same-layout (YV.Accepted h n) = refl
-same-layout (YV.Refused n d) = refl
+same-head : (x : H.Head) → headFor (headingIn x) ≡ x
+same-head (HV.Found g) = refl
+same-head (HV.Refused n d) = refl
 
-pub one-layout : {x y : Y.Layout} {told : Answer Outline} → outlineIn x ≡ told → outlineIn y ≡ told → x ≡ y
-one-layout = one-told outlineIn layoutFor same-layout
+pub one-head : {x y : H.Head} {told : Answer G.Heading} → headingIn x ≡ told → headingIn y ≡ told → x ≡ y
+one-head = one-told headingIn headFor same-head
+
+-- `parameter_from`
+abbrev parameterFor : Answer Entry → P.Parameter
+parameterFor (accepted e) = PV.Found (e .number) (e .form) (e .start) (e .size)
+parameterFor (refused n d) = PV.Refused n d
+
+same-parameter : (at : ℕ) (x : P.Parameter) → parameterFor (entryIn at x) ≡ x
+same-parameter at (PV.Found number form start size) = refl
+same-parameter at (PV.Refused n d) = refl
+
+pub one-parameter : (at : ℕ) {x y : P.Parameter} {told : Answer Entry} → entryIn at x ≡ told → entryIn at y ≡ told → x ≡ y
+one-parameter at = one-told (entryIn at) parameterFor (same-parameter at)
 
 -- `compose`
 abbrev countFor : Answer ℕ → C.Count

@@ -2,8 +2,8 @@
 use Prim.Native.Nat.{ℕ, _+_, _-_, _<_, _≤_}
 use mathlib.Core.Path.{_≡_}
 use mathlib.Core.List.{[], _∷_, _++_}
-use lib.ListN.{length, take, drop, getD, length-take, length-drop, List·getD-eq-default}
-use lib.Seq.{take-all, take-add, take-take, take-length, drop-cons, drop-drop, getD-take, getD-drop}
+use lib.ListN.{length, drop, getD, length-take, length-drop, List·getD-eq-default}
+use lib.Seq.{take-all, take-add, take-length, drop-cons, drop-drop, getD-take, getD-drop}
 use native.Mathlib.Decide.{decLt}
 use native.Mathlib.Omega.{arith}
 use Rattle.element.specs.Octets.{Octets, AreOctets, between}
@@ -26,11 +26,6 @@ module _ (s : Octets) where
 
   pub empty : (a b : ℕ) → b ≤ a → between a b s ≡ []
   empty a b h = let e : b - a ≡ 0 = omega arith in rw e
-
-  pub take-between : (a n b : ℕ) → a + n ≤ b → take n (between a b s) ≡ between a (a + n) s
-  take-between a n b h =
-      let e : (a + n) - a ≡ n = omega arith in
-      rw (e, take-take n (b - a) (drop a s) (omega arith))
 
   pub single : (a : ℕ) → a < length s → between a (a + 1) s ≡ getD s a 0 ∷ []
   single a h =

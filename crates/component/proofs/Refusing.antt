@@ -21,7 +21,7 @@ use Rattle.element.specs.Length.{short}
 use Rattle.element.specs.Decoded.{lengthAt, identifierAt}
 use Rattle.element.proofs.LengthLaws as Length
 use Rattle.element.proofs.IdentifierLaws as Identifier
-use Rattle.component.specs.Layout.{Span, sizeOf, contents, spanOf, wanted, setAt, Head, operation, invoke, result, headOf, parameter, parameterAt, parameters, Layout, layoutOf}
+use Rattle.component.specs.Layout.{Span, sizeOf, contents, spanOf, wanted, setAt, Head, operation, invoke, result, headAt, headFrom, parameter, parameterAt, parameters, Layout, layoutOf, layoutAt, layoutBehind}
 use Rattle.component.specs.Grammar.{Element, laid}
 use Rattle.component.specs.Faults.{component, NoField, NoIdentifier, Unheld, no-field, overrun, Unfound, ended, other, left, InSet, NoSet, NoOperation, NoBody, Whole, Faulty}
 use Rattle.component.specs.Faults as F
@@ -236,16 +236,16 @@ all s = record { octets = refl; ends = zero-add (length s) }
 -- a component of a type, within 4,096 octets
 module _ (s : Octets) (o : AreOctets s) (short : length s ≤ 4096) (some : 0 < length s) where
   opened : F.Typed (getD s 0 0) → {n d : ℕ} → contents s 0 1 (length s) ≡ refused n d → layoutOf s ≡ refused n d
-  unfolding layoutOf headOf
+  unfolding layoutAt layoutBehind headAt headFrom
   opened typed e = rw (lt-ltb 0 (length s) some, le-leb (length s) 4096 short, known typed, e)
 
   longer : F.Typed (getD s 0 0) → {x : Span} → contents s 0 1 (length s) ≡ accepted x → x .end < length s → layoutOf s ≡ refused 5 (x .end)
-  unfolding layoutOf headOf
+  unfolding layoutAt layoutBehind headAt headFrom
   longer typed {x} e h = rw (lt-ltb 0 (length s) some, le-leb (length s) 4096 short, known typed, e, ne-eqb (x .end) (length s) (omega arith))
 
   filled : F.Typed (getD s 0 0) → {x : Span} → contents s 0 1 (length s) ≡ accepted x → x .end ≡ length s → {t : Octets} {n d : ℕ} →
       NoBody (getD s 0 0) (x .start) t n d → Rest s (x .start) t → layoutOf s ≡ refused n d
-  unfolding layoutOf headOf walk
+  unfolding layoutAt layoutBehind headAt headFrom walk
   filled (inl k) {x} e last f r =
       rw (lt-ltb 0 (length s) some, le-leb (length s) 4096 short, k, e, eq-eqb (x .end) (length s) last) (invoke-refused s o x last (rw k at f) r)
   filled (inr k) {x} e last f r =
@@ -279,7 +279,7 @@ some (Whole.inside f h) = omega arith
 
 -- ---- back: a fault is what the layout refuses with
 pub refuses : {s : Octets} → AreOctets s → {n d : ℕ} → Faulty n d s → layoutOf s ≡ refused n d
-unfolding layoutOf headOf
+unfolding layoutAt layoutBehind headAt headFrom
 refuses o Faulty.empty = refl
 refuses {s} o (Faulty.long h) = rw (lt-ltb 0 (length s) (omega arith), lt-leb (length s) 4096 h)
 refuses {s} o (Faulty.untyped {a} h f) = rw (lt-ltb 0 (length s) (omega arith), le-leb (length s) 4096 h, ne-eqb a 0xE9 (λ e. f (inl e)), ne-eqb a 0xEA (λ e. f (inr e)))

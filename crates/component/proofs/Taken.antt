@@ -1,4 +1,4 @@
--- An accepted answer taken apart, step by step, as `do` goes.
+-- An answer taken apart, step by step, as `do` goes.
 use Prim.Native.Nat.{ℕ}
 use mathlib.Core.Path.{_≡_, refl}
 use mathlib.Core.Bool.{Bool, true, false}
@@ -13,3 +13,7 @@ module _ {A : Type 0} {y : A} where
   pub passed : (t : Bool) (n d : ℕ) {r : Answer A} → (check t n d >> r) ≡ accepted y → (t ≡ true) × (r ≡ accepted y)
   passed true n d e = (refl, e)
   passed false n d e = let z : _≡_ {A = ℕ} 0 1 = cc in absurd (omega arith)
+
+pub stopped : {A B C : Type 0} (a : Answer A) (f : A → B) (g : A → Answer C) {n d : ℕ} → (a >>= λ x. accepted (f x)) ≡ refused n d → (a >>= g) ≡ refused n d
+stopped (accepted x) f g e = let z : _≡_ {A = ℕ} 0 1 = cc in absurd (omega arith)
+stopped (refused n d) f g e = cc

@@ -77,15 +77,25 @@ result s x = do
   f ← setAt s (i .end) (x .end)
   accepted (record { kind = 0xEA; id = i; operation = 0; set = f })
 
-unfoldable pub headOf : Octets → Answer Head
-headOf s = do
-  check (ltb 0 (length s)) 2 0
-  check (leb (length s) 4096) 2 0
-  check (eqb (getD s 0 0) 0xE9 || eqb (getD s 0 0) 0xEA) 3 0
-  x ← contents s 0 1 (length s)
+-- the component that stands from `from` to the end of the octets
+unfoldable pub headFrom : Octets → (from : ℕ) → Answer Head
+headFrom s from = do
+  check (eqb (getD s from 0) 0xE9 || eqb (getD s from 0) 0xEA) 3 0
+  x ← contents s from (from + 1) (length s)
   check (eqb (x .end) (length s)) 5 (x .end)
-  if (eqb (getD s 0 0) 0xE9) (invoke s x) (result s x)
+  if (eqb (getD s from 0) 0xE9) (invoke s x) (result s x)
 
+-- the same, with 2 asked first
+unfoldable pub headAt : Octets → (from : ℕ) → Answer Head
+headAt s from = do
+  check (ltb from (length s)) 2 0
+  check (leb (length s) 4096) 2 0
+  headFrom s from
+
+abbrev pub headOf : Octets → Answer Head
+headOf s = headAt s 0
+
+-- ---- parameters
 unfoldable pub parameter : Octets → (at end : ℕ) → I.Identifier → Answer Entry
 parameter s at end (IV.Is number form octets) = do
   x ← contents s at (at + octets) end
@@ -95,6 +105,13 @@ parameter s at end IV.TooLarge = refused 18 at
 
 unfoldable pub parameterAt : Octets → (at end : ℕ) → Answer Entry
 parameterAt s at end = parameter s at end (identifierAt (between at end s))
+
+-- the parameter that stands at `at`, in a parent that ends where the octets end
+unfoldable pub parameterFrom : Octets → (at : ℕ) → Answer Entry
+parameterFrom s at = do
+  check (leb (length s) 4096) 2 0
+  check (ltb at (length s)) 5 (length s)
+  parameterAt s at (length s)
 
 -- the parameters from `at` to `end`, where `room` more are allowed
 unfoldable pub parameters : (room : ℕ) → Octets → (at end : ℕ) → Answer (List Entry)
@@ -112,8 +129,16 @@ pub record Layout : Type 0 where
   pub head : Head
   pub entries : List Entry
 
-unfoldable pub layoutOf : Octets → Answer Layout
-layoutOf s = do
-  h ← headOf s
+unfoldable pub layoutBehind : Octets → Head → Answer Layout
+layoutBehind s h = do
   es ← parameters 64 s (h .set .start) (h .set .end)
   accepted (record { head = h; entries = es })
+
+unfoldable pub layoutFrom : Octets → (from : ℕ) → Answer Layout
+layoutFrom s from = headFrom s from >>= layoutBehind s
+
+unfoldable pub layoutAt : Octets → (from : ℕ) → Answer Layout
+layoutAt s from = headAt s from >>= layoutBehind s
+
+abbrev pub layoutOf : Octets → Answer Layout
+layoutOf s = layoutAt s 0

@@ -9,14 +9,11 @@ use Rattle.component.specs.declared.Count as C
 use Rattle.component.specs.declared.Count.the-variants as CV
 use Rattle.component.specs.declared.Head as H
 use Rattle.component.specs.declared.Head.the-variants as HV
-use Rattle.component.specs.declared.Layout as Y
-use Rattle.component.specs.declared.Layout.the-variants as YV
 use Rattle.component.specs.declared.Heading as G
 use Rattle.component.specs.declared.Measured as M
 use Rattle.component.specs.declared.Measured.the-variants as MV
 use Rattle.component.specs.Layout.{Span}
 use Rattle.component.specs.Table.{Entry}
-use Rattle.component.specs.Outline.{Outline}
 use Rattle.component.specs.Composing.{Sizes}
 
 abbrev pub spanIn : S.Span → Answer Span
@@ -35,10 +32,6 @@ countIn (CV.Refused n d) = refused n d
 abbrev pub headingIn : H.Head → Answer G.Heading
 headingIn (HV.Found heading) = accepted heading
 headingIn (HV.Refused n d) = refused n d
-
-abbrev pub outlineIn : Y.Layout → Answer Outline
-outlineIn (YV.Accepted heading count) = accepted (record { heading = heading; count = count })
-outlineIn (YV.Refused n d) = refused n d
 
 abbrev pub measureIn : M.Measured → Answer Sizes
 measureIn (MV.Octets whole set) = accepted (record { whole = whole; set = set })

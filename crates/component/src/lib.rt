@@ -1,14 +1,13 @@
-// One component: its layout read, a part of it handed back, and its octets composed.
+// One component: the steps of its layout, a part of it handed back, and its octets composed.
 mod composing;
 mod reading;
 
 pub use composing::compose;
 pub use composing::measure;
-pub use reading::copy_numbers;
-pub use reading::fill_layout;
+pub use reading::head_from;
+pub use reading::parameter_from;
 pub use reading::part;
 pub use reading::part_fits;
-pub use reading::read_layout;
 
 // The octets of a component ID: `count` of them, and 0 where there is none.
 pub struct Id {
@@ -52,11 +51,6 @@ pub enum Parameter {
 
 pub enum Count {
     Of(usize),
-    Refused { number: u8, detail: u32 },
-}
-
-pub enum Layout {
-    Accepted { heading: Heading, count: usize },
     Refused { number: u8, detail: u32 },
 }
 

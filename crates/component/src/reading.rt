@@ -1,18 +1,14 @@
 // The layout of a component, from left to right, and a part of it handed back.
-use super::Count;
 use super::Head;
 use super::Heading;
 use super::Id;
-use super::Layout;
 use super::Parameter;
 use super::Span;
 use element::Identifier;
 use element::Length;
 ghost use mathlib.Core.Path.{_≡_};
-ghost use mathlib.Core.List.{[], _∷_};
-ghost use Prim.Native.Nat.{_+_, _*_, _≤_, _<_};
+ghost use Prim.Native.Nat.{_+_, _≤_};
 ghost use lib.ListN.{length};
-ghost use lib.Seq.{sets};
 ghost use Rattle.element.specs.Octets.{between};
 ghost use Rattle.component.specs.Layout.{
   span,
@@ -23,12 +19,12 @@ ghost use Rattle.component.specs.Layout.{
   invoke,
   result,
   parameterAt,
-  parameters,
+  parameterFrom,
 };
-ghost use Rattle.component.specs.Table.{idOf, tableWith};
-ghost use Rattle.component.specs.Outline.{headed, headingsOf, outlineOf, counted, walked, sheetAfter, tableAfter, copied};
+ghost use Rattle.component.specs.Table.{idOf};
+ghost use Rattle.component.specs.Outline.{headed, headingsAt};
 ghost use Rattle.component.specs.Part.{fits, partOf};
-ghost use Rattle.component.specs.Told.{spanIn, entryIn, countIn, headingIn, outlineIn};
+ghost use Rattle.component.specs.Told.{spanIn, entryIn, headingIn};
 
 // ---- one element
 
@@ -219,22 +215,23 @@ fn result_at(s: &[u8], start: usize, end: usize) -> Head
     }
 }
 
-fn head_of(s: &[u8]) -> Head
-    ensures { λ r. ⌜ headingIn r ≡ headingsOf (now (s .entry)) ⌝ }
+// The component that stands from `from` to the end of the octets.
+pub fn head_from(octets: &[u8], from: usize) -> Head
+    ensures { λ r. ⌜ headingIn r ≡ headingsAt (now (octets .entry)) from ⌝ }
 {
-    if s.len() <= 0 {
+    if octets.len() <= from {
         return Head::Refused {
             number: 2,
             detail: 0,
         };
     }
-    if 4096 < s.len() {
+    if 4096 < octets.len() {
         return Head::Refused {
             number: 2,
             detail: 0,
         };
     }
-    let kind = s[0];
+    let kind = octets[from];
     if kind != 0xE9 {
         if kind != 0xEA {
             return Head::Refused {
@@ -243,18 +240,18 @@ fn head_of(s: &[u8]) -> Head
             };
         }
     }
-    match contents_at(s, 0, 1, s.len()) {
+    match contents_at(octets, from, from + 1, octets.len()) {
         Span::Found { start, end } => {
-            if end != s.len() {
+            if end != octets.len() {
                 return Head::Refused {
                     number: 5,
                     detail: end as u32,
                 };
             }
             if kind == 0xE9 {
-                return invoke_at(s, start, end);
+                return invoke_at(octets, start, end);
             }
-            result_at(s, start, end)
+            result_at(octets, start, end)
         }
         Span::Refused { number, detail } => Head::Refused { number, detail },
     }
@@ -289,116 +286,23 @@ fn parameter_at(s: &[u8], at: usize, end: usize) -> Parameter
     }
 }
 
-// The four numbers of an entry.
-fn show(table: &mut [u16], entry: usize, number: u16, form: u16, start: usize, size: usize)
-    requires { ⌜ (4 * entry + 4 ≤ length (now table)) × (start ≤ 4096) × (size ≤ 4096) ⌝ }
-    ensures { λ _. ⌜ now (table .exit) ≡ sets (now (table .entry)) (4 * entry) (number ∷ form ∷ start ∷ size ∷ []) ⌝ }
+// The parameter that stands at `at`, in a parent that ends where the octets end.
+pub fn parameter_from(octets: &[u8], at: usize) -> Parameter
+    ensures { λ r. ⌜ entryIn at r ≡ parameterFrom (now (octets .entry)) at ⌝ }
 {
-    let at = 4 * entry;
-    table[at] = number;
-    table[at + 1] = form;
-    table[at + 2] = start as u16;
-    table[at + 3] = size as u16;
-}
-
-// The parameters from `from` to `end`, each shown in the table.
-fn parameters_at(s: &[u8], from: usize, end: usize, table: &mut [u16]) -> Count
-    requires { ⌜ (from ≤ end) × (end ≤ length (now s)) × (length (now s) ≤ 4096) × (256 ≤ length (now table)) ⌝ }
-    ensures { λ r. ⌜ (countIn r ≡ counted (parameters 64 (now (s .entry)) from end))
-        × (now (table .exit) ≡ tableWith (walked 64 (now (s .entry)) from end) (now (table .entry))) ⌝ }
-{
-    let mut at = from;
-    let mut count: usize = 0;
-    let answer = 'parameters: loop {
-        if end <= at {
-            break 'parameters Count::Of(count);
-        }
-        if 64 <= count {
-            break 'parameters Count::Refused {
-                number: 10,
-                detail: at as u32,
-            };
-        }
-        match parameter_at(s, at, end) {
-            Parameter::Found {
-                number,
-                form,
-                start,
-                size,
-            } => {
-                show(table, count, number, form, start, size);
-                at = start + size;
-                count = count + 1;
-            }
-            Parameter::Refused { number, detail } => {
-                break 'parameters Count::Refused { number, detail };
-            }
-        }
-    };
-    answer
-}
-
-// ---- the layout
-
-// The layout into a work sheet, which keeps the entries before a fault; `read_layout` lends no sheet of its caller's.
-pub fn fill_layout(component: &[u8], sheet: &mut [u16]) -> Layout
-    ensures { λ r. ⌜ (outlineIn r ≡ outlineOf (now (component .entry)) (length (now (sheet .entry))))
-        × (now (sheet .exit) ≡ sheetAfter (now (component .entry)) (now (sheet .entry))) ⌝ }
-{
-    if sheet.len() < 256 {
-        return Layout::Refused {
-            number: 1,
+    if 4096 < octets.len() {
+        return Parameter::Refused {
+            number: 2,
             detail: 0,
         };
     }
-    match head_of(component) {
-        Head::Found(heading) => {
-            let set = heading.set;
-            match parameters_at(component, set, component.len(), sheet) {
-                Count::Of(count) => Layout::Accepted { heading, count },
-                Count::Refused { number, detail } => Layout::Refused { number, detail },
-            }
-        }
-        Head::Refused { number, detail } => Layout::Refused { number, detail },
-    }
-}
-
-// The layout, with four numbers for each parameter in the lent table; a refusal leaves it as it was.
-pub fn read_layout(component: &[u8], table: &mut [u16]) -> Layout
-    ensures { λ r. ⌜ (outlineIn r ≡ outlineOf (now (component .entry)) (length (now (table .entry))))
-        × (now (table .exit) ≡ tableAfter (now (component .entry)) (now (table .entry))) ⌝ }
-{
-    if table.len() < 256 {
-        return Layout::Refused {
-            number: 1,
-            detail: 0,
+    if octets.len() <= at {
+        return Parameter::Refused {
+            number: 5,
+            detail: octets.len() as u32,
         };
     }
-    let mut sheet = [0u16; 256];
-    match fill_layout(component, &mut sheet) {
-        Layout::Accepted { heading, count } => {
-            copy_numbers(&sheet, table, 4 * count);
-            Layout::Accepted { heading, count }
-        }
-        Layout::Refused { number, detail } => Layout::Refused { number, detail },
-    }
-}
-
-// The first `count` numbers of the one in place of the other's; nothing where either has fewer.
-pub fn copy_numbers(from: &[u16], to: &mut [u16], count: usize)
-    ensures { λ _. ⌜ now (to .exit) ≡ copied (now (from .entry)) (now (to .entry)) count ⌝ }
-{
-    if from.len() < count {
-        return;
-    }
-    if to.len() < count {
-        return;
-    }
-    let mut i: usize = 0;
-    while i < count {
-        to[i] = from[i];
-        i = i + 1;
-    }
+    parameter_at(octets, at, octets.len())
 }
 
 // ---- a part of the component

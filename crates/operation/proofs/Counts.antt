@@ -15,19 +15,18 @@ use Rattle.component.specs.Composing.{entriesOf, octetsOf, written}
 use Rattle.component.specs.Table.{componentOf}
 use Rattle.component.specs.Needed.{octetsNeeded}
 use Rattle.component.specs.Composed.{composed}
-use Rattle.component.proofs.Laying.{few}
+use Rattle.component.proofs.Laying.{ordered}
 use Rattle.component.proofs.Taken.{taken, passed}
 use Rattle.component.proofs.Measuring.{ready}
 use Rattle.component.proofs.Composition.{whole}
 use Rattle.operation.specs.Row.{Row}
 use Rattle.operation.specs.Judge.{judge}
 use Rattle.operation.specs.Finding.{rowOf}
-use Rattle.operation.specs.Reading.{Shown, reading}
+use Rattle.operation.specs.Reading.{Shown, shownBy, shownOf, readingAt, reading}
 use Rattle.operation.specs.Items.{itemOf, itemsOf}
 use Rattle.operation.specs.Caller.{Told}
 use Rattle.operation.specs.Told.{told}
 use Rattle.operation.specs.Writing.{writing}
-use Rattle.operation.proofs.Readings.{shownBy}
 use Rattle.operation.proofs.Reached.{all-counted}
 
 inner : {A : Type 0} {x y : A} → accepted x ≡ accepted y → x ≡ y
@@ -35,10 +34,10 @@ inner e = cc
 
 module _ (s : Octets) (given room : ℕ) (o : AreOctets s) where
   shown : (l : Layout) (row : Row) {x : Shown} → layoutOf s ≡ accepted l → shownBy s l given row ≡ x → (length (x .entries) ≤ 64) × (x .named + x .other ≡ length (x .entries))
-  shown l row e f = rw (← f) (few s e o, omega (arith, all-counted row (map itemOf (l .entries)), length-map (l .entries) itemOf))
+  shown l row e f = rw (← f) (ordered s o 0 e .few, omega (arith, all-counted row (map itemOf (l .entries)), length-map (l .entries) itemOf))
 
   few-shown : {x : Shown} → reading s given room ≡ accepted x → (length (x .entries) ≤ 64) × (x .named + x .other ≡ length (x .entries))
-  unfolding reading
+  unfolding readingAt shownOf
   few-shown e =
       let (_, f) = passed (leb 256 room) 1 0 e in
       let (l, g, h) = taken (layoutOf s) f in

@@ -12,6 +12,7 @@ pub mod Readings
 pub mod RowsFound
 pub mod Places
 pub mod Marked
+pub mod Walking
 pub mod Reached
 pub mod Reader
 pub mod Writer

@@ -30,7 +30,7 @@ use Rattle.component.proofs.OneFault.{laid-out, faulty}
 use Rattle.operation.specs.Row.{Row}
 use Rattle.operation.specs.Judge.{judge}
 use Rattle.operation.specs.Finding.{rowOf}
-use Rattle.operation.specs.Reading.{Shown, reading}
+use Rattle.operation.specs.Reading.{Shown, reading, readingAt, shownOf}
 use Rattle.operation.specs.Items.{itemOf, itemsOf}
 use Rattle.operation.specs.Writing.{writing}
 use Rattle.operation.specs.Caller.{Told, Order}
@@ -54,7 +54,7 @@ module _ (s : Octets) (o : AreOctets s) where
     Rightly _ = (c : Component) × (row : Row) × Right s given t c row
 
     reader-ends : Ends Rightly (ReaderRefuses s given t) (reading s given (length t))
-    unfolding reading
+    unfolding readingAt shownOf
     reader-ends =
         let Q = ReaderRefuses s given t in
         at-most Q ReaderRefuses.table λ (enough : 256 ≤ length t).

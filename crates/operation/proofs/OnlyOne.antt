@@ -28,7 +28,7 @@ use Rattle.operation.specs.Row.{Row}
 use Rattle.operation.specs.Finding.{rowOf}
 use Rattle.operation.specs.Faults.{RowFault}
 use Rattle.operation.specs.Items.{itemOf}
-use Rattle.operation.specs.Reading.{reading, tableAfter}
+use Rattle.operation.specs.Reading.{reading, readingAt, tableAfter}
 use Rattle.operation.specs.Writing.{writing}
 use Rattle.operation.specs.Caller.{Told, Read, Reader, Order, Wrote, Writer}
 use Rattle.operation.specs.Told.{told}
@@ -65,7 +65,7 @@ module _ (s : Octets) (o : AreOctets s) (given : ℕ) (t : List ℕ) where
         no-row s given (length t) enough e (nowhere _ _ k (l .head .operation)) ∙ ap (λ k. refused 11 k) (r .operation)
 
   pub reader-refuses : {n d : ℕ} → ReaderRefuses s given t n d → reading s given (length t) ≡ refused n d
-  unfolding reading
+  unfolding readingAt
   reader-refuses (ReaderRefuses.table h) = rw (lt-leb 256 (length t) h)
   reader-refuses (ReaderRefuses.fault h f) = rw (le-leb 256 (length t) h, refuses o f)
   reader-refuses (ReaderRefuses.no-row h l e) = rowless h l (no-row-found _ _ e)

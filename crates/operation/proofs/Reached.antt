@@ -1,20 +1,21 @@
 -- From the engine's answer over the sheet to the reading: the row, the counts, and each place that a refusal points to.
-use Prim.Native.Nat.{ℕ, _+_, _-_, _<_, _≤_}
+use Prim.Native.Nat.{ℕ, _+_, _*_, _-_, _<_}
 use mathlib.Core.Path.{_≡_, refl, ap, _∙_}
 use mathlib.Core.Bool.{Bool, true, false}
 use mathlib.Core.List.{List, [], _∷_, map, List·Memᴰ, List·Memᴰ·cases-cons, List·Memᴰ·not-nil}
 use mathlib.Core.Logic.{⊎-elim}
 use lib.ListN.{length}
+use lib.Seq.{take-append-seam}
 use lib.Dec.{eqb}
 use native.Mathlib.Omega.{arith}
-use Rattle.element.specs.Octets.{Octets, AreOctets, if}
+use Rattle.element.specs.Octets.{Octets, if}
 use Rattle.element.specs.Answer.{Answer, accepted, refused, _>>=_, _>>_}
 use Rattle.component.specs.Table.{Entry, tableWith}
-use Rattle.component.specs.Layout.{Layout, layoutOf}
+use Rattle.component.specs.Layout.{Layout}
 use Rattle.component.specs.Shown.{specifierIn}
 use Rattle.component.specs.Outline.{headingOf, specifierAt}
-use Rattle.component.proofs.Laying.{few, copies}
-use Rattle.component.proofs.Sound.{in-order}
+use Rattle.component.proofs.Entries.{numbers-length}
+use Rattle.component.proofs.Laying.{Ordered}
 use Rattle.operation.specs.declared.Judged as J
 use Rattle.operation.specs.declared.Judged.the-variants as JV
 use Rattle.operation.specs.Row.{Row, Item, named}
@@ -22,12 +23,13 @@ use Rattle.operation.specs.Judge.{judge, countNamed, pointed}
 use Rattle.operation.specs.Faults.{RowFault, again, missing, both}
 use Rattle.operation.specs.Coded.{itemsFrom, judgement, verdict, judgedIn}
 use Rattle.operation.specs.Items.{itemOf}
-use Rattle.operation.specs.Reading.{countOther, reading, tableAfter}
+use Rattle.operation.specs.Reading.{countOther, shownBy, shownOf, tableAfter}
 use Rattle.operation.specs.Told.{told}
+use Rattle.operation.specs.Sheet.{copied}
 use Rattle.operation.specs.Finishing.{specifierFor, Pointing, detailOf, finished, tableFinished}
 use Rattle.operation.proofs.Marks.{marked, count-marked}
 use Rattle.operation.proofs.RowFaults.{row-faulty, pointed-at}
-use Rattle.operation.proofs.Readings.{either-row, shownBy, reads, no-row}
+use Rattle.operation.proofs.Readings.{either-row, shown-by, not-shown}
 use Rattle.operation.proofs.Places.{indexed, placeAt, sheet-items, placed-items, sheet-place}
 
 -- ---- counts and marks of a run
@@ -56,11 +58,15 @@ length-items : (es : List Entry) → length (map itemOf es) ≡ length es
 length-items [] = refl
 length-items (e ∷ es) = omega (arith, length-items es)
 
+copies : (es : List Entry) (z t : List ℕ) → copied (tableWith es z) t (4 * length es) ≡ tableWith es t
+unfolding tableWith
+copies es z t = simp (← numbers-length es, take-append-seam)
+
 twice : (t : Bool) (a b c : ℕ) → if t (if t a c) b ≡ if t a b
 twice true a b c = refl
 twice false a b c = refl
 
-module _ (s : Octets) (o : AreOctets s) (given : ℕ) (z : List ℕ) {l : Layout} (e : layoutOf s ≡ accepted l) where
+module _ (s : Octets) (given : ℕ) (z : List ℕ) {l : Layout} (w : Ordered s l) where
   pub own : specifierFor (headingOf s (l .head)) given ≡ specifierIn s l given
   unfolding specifierFor headingOf specifierAt specifierIn
   own = twice (eqb (l .head .kind) 0xE9) _ given 0
@@ -73,9 +79,9 @@ module _ (s : Octets) (o : AreOctets s) (given : ℕ) (z : List ℕ) {l : Layout
     pointing-at : {n d : ℕ} → RowFault row (indexed 0 (l .entries)) n d →
         detailOf (headingOf s (l .head)) (tableWith (l .entries) z) n d ≡ if (eqb n 13) d (placeAt (l .entries) d)
     unfolding detailOf headingOf
-    pointing-at (again before x behind p q r u v) = sheet-place (l .entries) z (in-order s o l e) (x .mark) (below (again before x behind p q r u v) (λ z. omega arith))
+    pointing-at (again before x behind p q r u v) = sheet-place (l .entries) z (w .contiguous) (x .mark) (below (again before x behind p q r u v) (λ z. omega arith))
     pointing-at (missing q f) = refl
-    pointing-at (both {x = x} q p f y) = sheet-place (l .entries) z (in-order s o l e) (x .mark) (below (both q p f y) (λ z. omega arith))
+    pointing-at (both {x = x} q p f y) = sheet-place (l .entries) z (w .contiguous) (x .mark) (below (both q p f y) (λ z. omega arith))
 
     by-place : judge row (map itemOf (l .entries)) ≡ pointed (placeAt (l .entries)) (judge row (indexed 0 (l .entries)))
     by-place = rw (← placed-items (l .entries)) (marked (placeAt (l .entries)) row (indexed 0 (l .entries)))
@@ -114,12 +120,12 @@ module _ (s : Octets) (o : AreOctets s) (given : ℕ) (z : List ℕ) {l : Layout
         let h : i ≡ d = cc in
         rw h (below (row-faulty row (indexed 0 (l .entries)) q) (λ k. omega arith))
 
-    shows : (t : List ℕ) → 256 ≤ length z → 256 ≤ length t → (a : Answer Unit) →
+    shows : (t : List ℕ) (a : Answer Unit) →
         tableFinished (length (l .entries)) (tableWith (l .entries) z) t (a >>= λ _. accepted (countNamed row (indexed 0 (l .entries))))
         ≡ tableAfter t (pointed (placeAt (l .entries)) a >>= λ _. accepted (shownBy s l given row))
     unfolding tableFinished tableAfter pointed
-    shows t h k (accepted u) = copies (l .entries) z t (few s e o) h k
-    shows t h k (refused n d) = refl
+    shows t (accepted u) = copies (l .entries) z t
+    shows t (refused n d) = refl
 
   -- ---- whatever the row
   none-told : finished (headingOf s (l .head)) (specifierIn s l given) (length (l .entries)) (tableWith (l .entries) z) (refused 11 0) ≡ told (refused 11 (l .head .operation))
@@ -133,22 +139,20 @@ module _ (s : Octets) (o : AreOctets s) (given : ℕ) (z : List ℕ) {l : Layout
   abbrev said : Answer ℕ
   said = verdict (l .head .kind) (specifierIn s l given) (itemsFrom (tableWith (l .entries) z) 0 (length (l .entries)))
 
-  pub answers : (room : ℕ) → 256 ≤ room →
-      finished (headingOf s (l .head)) (specifierIn s l given) (length (l .entries)) (tableWith (l .entries) z) said ≡ told (reading s given room)
+  pub answers : finished (headingOf s (l .head)) (specifierIn s l given) (length (l .entries)) (tableWith (l .entries) z) said ≡ told (shownOf s given l)
   unfolding verdict judgement
-  answers room h =
+  answers =
       ⊎-elim
-      (λ (row, f). rw (f 0, sheet-items (l .entries) z, reads s given room h e (f (l .head .operation)), by-place row) (judged row (judge row (indexed 0 (l .entries))) refl))
-      (λ f. rw (f 0, no-row s given room h e (f (l .head .operation))) none-told)
+      (λ (row, f). rw (f 0, sheet-items (l .entries) z, shown-by s given l (f (l .head .operation)), by-place row) (judged row (judge row (indexed 0 (l .entries))) refl))
+      (λ f. rw (f 0, not-shown s given l (f (l .head .operation))) none-told)
       (either-row (l .head .kind) (specifierIn s l given))
 
-  pub tables : (t : List ℕ) → 256 ≤ length z → 256 ≤ length t →
-      tableFinished (length (l .entries)) (tableWith (l .entries) z) t said ≡ tableAfter t (reading s given (length t))
+  pub tables : (t : List ℕ) → tableFinished (length (l .entries)) (tableWith (l .entries) z) t said ≡ tableAfter t (shownOf s given l)
   unfolding verdict judgement
-  tables t h k =
+  tables t =
       ⊎-elim
-      (λ (row, f). rw (f 0, sheet-items (l .entries) z, reads s given (length t) k e (f (l .head .operation)), by-place row) (shows row t h k (judge row (indexed 0 (l .entries)))))
-      (λ f. rw (f 0, no-row s given (length t) k e (f (l .head .operation))) (none-shown t))
+      (λ (row, f). rw (f 0, sheet-items (l .entries) z, shown-by s given l (f (l .head .operation)), by-place row) (shows row t (judge row (indexed 0 (l .entries)))))
+      (λ f. rw (f 0, not-shown s given l (f (l .head .operation))) (none-shown t))
       (either-row (l .head .kind) (specifierIn s l given))
 
   pub pointing : (j : J.Judged) → judgedIn j ≡ said → Pointing (length (l .entries)) j

@@ -7,16 +7,16 @@ use mathlib.Core.Logic.{_⊎_, inl, inr, ⊎-elim}
 use lib.Dec.{eqb}
 use borrow.Author.Tests.{le-leb}
 use native.Mathlib.Omega.{arith}
-use Rattle.element.specs.Octets.{Octets, if, between}
+use Rattle.element.specs.Octets.{Octets, if}
 use Rattle.element.specs.Answer.{Answer, accepted, refused, _>>_}
-use Rattle.component.specs.Layout.{Layout, layoutOf}
+use Rattle.component.specs.Layout.{Layout, layoutAt, layoutOf}
 use Rattle.component.specs.Shown.{specifierIn}
 use Rattle.component.proofs.Ends.{Ends, gives, stops}
 use Rattle.operation.specs.Row.{Row}
-use Rattle.operation.specs.Judge.{judge, countNamed}
+use Rattle.operation.specs.Judge.{judge}
 use Rattle.operation.specs.Rows.{Operation, operations}
 use Rattle.operation.specs.Finding.{find, rowOf}
-use Rattle.operation.specs.Reading.{Shown, countOther, reading}
+use Rattle.operation.specs.Reading.{shownBy, shownOf, readingAt, reading}
 use Rattle.operation.specs.Items.{itemOf}
 
 -- a row is there, or 11 points wherever it is told to
@@ -46,24 +46,25 @@ pub row-ends : (Q : ℕ → ℕ → Type 0) (kind specifier at : ℕ) → (rowOf
     Ends (λ row. (b : ℕ) → rowOf kind specifier b ≡ accepted row) Q (rowOf kind specifier at)
 row-ends Q kind specifier at q = ⊎-elim (λ (row, f). rw (f at) (gives f)) (λ f. rw (f at) (stops (q (f 0)))) (either-row kind specifier)
 
--- what is shown of a layout by its row
-abbrev pub shownBy : Octets → Layout → (given : ℕ) → Row → Shown
-shownBy s l given row =
-    record {
-      kind = l .head .kind;
-      id = between (l .head .id .start) (l .head .id .end) s;
-      specifier = specifierIn s l given;
-      entries = l .entries;
-      named = countNamed row (map itemOf (l .entries));
-      other = countOther row (map itemOf (l .entries));
-    }
+-- ---- a layout that was found
+module _ (s : Octets) (given : ℕ) (l : Layout) where
+  pub shown-by : {row : Row} → rowOf (l .head .kind) (specifierIn s l given) (l .head .operation) ≡ accepted row →
+      shownOf s given l ≡ (judge row (map itemOf (l .entries)) >> accepted (shownBy s l given row))
+  unfolding shownOf
+  shown-by f = simp f
+
+  pub not-shown : rowOf (l .head .kind) (specifierIn s l given) (l .head .operation) ≡ refused 11 (l .head .operation) → shownOf s given l ≡ refused 11 (l .head .operation)
+  unfolding shownOf
+  not-shown f = simp f
+
+pub laid-reads : (s : Octets) (from given room : ℕ) {l : Layout} → 256 ≤ room → layoutAt s from ≡ accepted l → readingAt s from given room ≡ shownOf s given l
+unfolding readingAt
+laid-reads s from given room h e = simp (le-leb 256 room, e)
 
 module _ (s : Octets) (given room : ℕ) {l : Layout} (h : 256 ≤ room) (e : layoutOf s ≡ accepted l) where
   pub reads : {row : Row} → rowOf (l .head .kind) (specifierIn s l given) (l .head .operation) ≡ accepted row →
       reading s given room ≡ (judge row (map itemOf (l .entries)) >> accepted (shownBy s l given row))
-  unfolding reading
-  reads f = simp (le-leb 256 room, e, f)
+  reads f = laid-reads s 0 given room h e ∙ shown-by s given l f
 
   pub no-row : rowOf (l .head .kind) (specifierIn s l given) (l .head .operation) ≡ refused 11 (l .head .operation) → reading s given room ≡ refused 11 (l .head .operation)
-  unfolding reading
-  no-row f = simp (le-leb 256 room, e, f)
+  no-row f = laid-reads s 0 given room h e ∙ not-shown s given l f

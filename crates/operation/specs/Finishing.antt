@@ -6,9 +6,9 @@ use lib.Dec.{eqb}
 use Rattle.element.specs.Octets.{if}
 use Rattle.element.specs.Answer.{Answer, accepted, refused}
 use Rattle.component.specs.declared.Heading as G
-use Rattle.component.specs.Outline.{copied}
 use Rattle.operation.specs.declared.Judged as J
 use Rattle.operation.specs.declared.Judged.the-variants as JV
+use Rattle.operation.specs.Sheet.{copied}
 use Rattle.operation.specs.Caller.{Told}
 
 unfoldable pub specifierFor : G.Heading → (given : ℕ) → ℕ

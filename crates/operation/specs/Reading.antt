@@ -5,7 +5,7 @@ use lib.Dec.{leb}
 use Rattle.element.specs.Octets.{Octets, if, between}
 use Rattle.element.specs.Answer.{Answer, accepted, refused, _>>=_, _>>_, check}
 use Rattle.component.specs.Table.{Entry, tableWith}
-use Rattle.component.specs.Layout.{layoutOf}
+use Rattle.component.specs.Layout.{Layout, layoutFrom, layoutAt}
 use Rattle.component.specs.Shown.{specifierIn}
 use Rattle.operation.specs.Row.{Row, Item, named}
 use Rattle.operation.specs.Judge.{judge, countNamed}
@@ -25,20 +25,37 @@ unfoldable pub countOther : Row → List Item → ℕ
 countOther row [] = 0
 countOther row (x ∷ xs) = if (named row (x .is)) (countOther row xs) (1 + countOther row xs)
 
-unfoldable pub reading : Octets → (given room : ℕ) → Answer Shown
-reading s given room = do
-  check (leb 256 room) 1 0
-  l ← layoutOf s
+-- what is shown of a layout by its row
+abbrev pub shownBy : Octets → Layout → (given : ℕ) → Row → Shown
+shownBy s l given row =
+    record {
+      kind = l .head .kind;
+      id = between (l .head .id .start) (l .head .id .end) s;
+      specifier = specifierIn s l given;
+      entries = l .entries;
+      named = countNamed row (map itemOf (l .entries));
+      other = countOther row (map itemOf (l .entries));
+    }
+
+unfoldable pub shownOf : Octets → (given : ℕ) → Layout → Answer Shown
+shownOf s given l = do
   row ← rowOf (l .head .kind) (specifierIn s l given) (l .head .operation)
   judge row (map itemOf (l .entries))
-  accepted (record {
-    kind = l .head .kind;
-    id = between (l .head .id .start) (l .head .id .end) s;
-    specifier = specifierIn s l given;
-    entries = l .entries;
-    named = countNamed row (map itemOf (l .entries));
-    other = countOther row (map itemOf (l .entries));
-  })
+  accepted (shownBy s l given row)
+
+-- the component that stands from `from` to the end of the octets
+unfoldable pub readingFrom : Octets → (from given : ℕ) → Answer Shown
+readingFrom s from given = layoutFrom s from >>= shownOf s given
+
+-- the same, with 1 and 2 asked first
+unfoldable pub readingAt : Octets → (from given room : ℕ) → Answer Shown
+readingAt s from given room = do
+  check (leb 256 room) 1 0
+  l ← layoutAt s from
+  shownOf s given l
+
+abbrev pub reading : Octets → (given room : ℕ) → Answer Shown
+reading s given room = readingAt s 0 given room
 
 -- numbers beyond those filled stay, and a refusal leaves all
 unfoldable pub tableAfter : List ℕ → Answer Shown → List ℕ

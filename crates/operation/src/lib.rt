@@ -1,14 +1,17 @@
 // The operation rows over a component: reading and writing.
 mod engine;
 mod rows;
+mod sheet;
 
 use component::Count;
+use component::Head;
 use component::Heading;
 use component::Id;
-use component::Layout;
 use component::Measured;
 use engine::wide;
 use rows::judge_operation;
+use sheet::copy_numbers;
+use sheet::parameters_from;
 ghost use mathlib.Core.Path.{_≡_};
 ghost use Prim.Native.Nat.{_*_, _<_, _≤_};
 ghost use lib.ListN.{length};
@@ -21,7 +24,7 @@ ghost use Rattle.operation.specs.Finishing.{
   finished,
   tableFinished,
 };
-ghost use Rattle.operation.specs.Reading.{reading, tableAfter};
+ghost use Rattle.operation.specs.Reading.{reading, readingAt, tableAfter};
 ghost use Rattle.operation.specs.Writing.{writing};
 ghost use Rattle.operation.specs.Told.{told, answerIn, writtenIn};
 
@@ -117,7 +120,7 @@ fn finish(
 {
     match judged {
         Judged::Fits(named) => {
-            component::copy_numbers(sheet, table, 4 * count);
+            copy_numbers(sheet, table, 4 * count);
             let id = heading.id;
             Reading::Accepted {
                 kind: heading.kind,
@@ -147,11 +150,12 @@ fn finish(
     }
 }
 
-// Reads a component. A RESULT is of the operation whose specifier is handed in; four numbers for each parameter go to
-// the lent table, which a refusal leaves as it was.
-pub fn read(component: &[u8], specifier: u8, table: &mut [u16]) -> Reading
-    ensures { λ r. ⌜ (answerIn r ≡ told (reading (now (component .entry)) specifier (length (now (table .entry)))))
-        × (now (table .exit) ≡ tableAfter (now (table .entry)) (reading (now (component .entry)) specifier (length (now (table .entry))))) ⌝ }
+// Reads the component that stands from `from` to the end of the octets. A RESULT is of the operation whose specifier is
+// handed in; four numbers for each parameter go to the lent table, which a refusal leaves as it was.
+pub fn read_from(octets: &[u8], from: usize, specifier: u8, table: &mut [u16]) -> Reading
+    ensures { λ r. ⌜ (answerIn r ≡ told (readingAt (now (octets .entry)) from specifier (length (now (table .entry)))))
+        × (now (table .exit) ≡ tableAfter (now (table .entry))
+        (readingAt (now (octets .entry)) from specifier (length (now (table .entry))))) ⌝ }
 {
     if table.len() < 256 {
         return Reading::Refused {
@@ -159,16 +163,30 @@ pub fn read(component: &[u8], specifier: u8, table: &mut [u16]) -> Reading
             detail: 0,
         };
     }
-    let mut sheet = [0u16; 256];
-    match component::fill_layout(component, &mut sheet) {
-        Layout::Accepted { heading, count } => {
-            let kind = heading.kind;
-            let own = specifier_of(heading, specifier);
-            let judged = judge_operation(kind, own, &sheet, count);
-            finish(heading, own, count, judged, &sheet, table)
+    match component::head_from(octets, from) {
+        Head::Found(heading) => {
+            let mut sheet = [0u16; 256];
+            match parameters_from(octets, heading.set, &mut sheet) {
+                Count::Of(count) => {
+                    let kind = heading.kind;
+                    let own = specifier_of(heading, specifier);
+                    let judged = judge_operation(kind, own, &sheet, count);
+                    finish(heading, own, count, judged, &sheet, table)
+                }
+                Count::Refused { number, detail } => Reading::Refused { number, detail },
+            }
         }
-        Layout::Refused { number, detail } => Reading::Refused { number, detail },
+        Head::Refused { number, detail } => Reading::Refused { number, detail },
     }
+}
+
+// Reads a component.
+pub fn read(component: &[u8], specifier: u8, table: &mut [u16]) -> Reading
+    ensures { λ r. ⌜ (answerIn r ≡ told (reading (now (component .entry)) specifier (length (now (table .entry)))))
+        × (now (table .exit) ≡ tableAfter (now (table .entry))
+        (reading (now (component .entry)) specifier (length (now (table .entry))))) ⌝ }
+{
+    read_from(component, 0, specifier, table)
 }
 
 // ---- writer

@@ -1,4 +1,4 @@
--- `component::copy_numbers` meets its contract. The invariant: the first `i` numbers are copied, and those behind them are as they were.
+-- `operation::copy_numbers` meets its contract. The invariant: the first `i` numbers are copied, and those behind them are as they were.
 -- Assumes nothing.
 use Prim.Native.Nat.{ℕ, _+_, _-_, _<_, _≤_}
 use mathlib.Core.Path.{_≡_, refl, sym, _∙_}
@@ -8,10 +8,8 @@ use lib.Seq.{take-suc, drop-cons, set-at, append-snoc, length-take-le}
 use native.Mathlib.Omega.{arith}
 use native.Mathlib.Numerals.{add-one}
 use borrow.Author.Needs.{needs}
-use borrow.Author.Tests.{le-leb, lt-leb}
-use Rattle.component.specs.Outline.{copied}
-use Rattle.component.proofs.reading.copy_numbers.Statement.{statement}
-use Rattle.component.proofs.reading.copy_numbers.Tie as tie
+use Rattle.operation.proofs.sheet.copy_numbers.Statement.{statement}
+use Rattle.operation.proofs.sheet.copy_numbers.Tie as tie
 
 one-more : (from to : List ℕ) (i : ℕ) → i < length from → i < length to → set (take i from ++ drop i to) i (getD from i 0) ≡ take (i + 1) from ++ drop (i + 1) to
 one-more from to i h k =
@@ -23,14 +21,6 @@ Inv-loop from to₀ count i₀ to i = (i ≤ count) × (length to ≡ length to�
 
 abbrev μ-loop : tie.MeasureT-loop
 μ-loop from to₀ count i₀ to i = count - i
-
-returns : tie.Need-returns Inv-loop μ-loop
-unfolding copied
-returns c = simp (lt-leb _ _ (c .if1 .taken))
-
-returns-2 : tie.Need-returns-2 Inv-loop μ-loop
-unfolding copied
-returns-2 c = simp (le-leb _ _ (c .before .if1 .left), lt-leb _ _ (c .if2 .taken))
 
 loop-holds : tie.Need-loop-holds Inv-loop μ-loop
 loop-holds c = (search needs, search needs, refl)
@@ -61,13 +51,11 @@ loop-again c =
 same-length : tie.Need-same-length Inv-loop μ-loop
 same-length c = search needs
 
-returns-3 : tie.Need-returns-3 Inv-loop μ-loop
-unfolding copied
-returns-3 c =
-    let a = c .before .before .before .before .args in
+returns : tie.Need-returns Inv-loop μ-loop
+returns c =
     let l = c .before .loop in
-    let e : l .i ≡ a .count = omega arith in
-    l .inv .2 ∙ rw e (simp (le-leb (a .count) (length (a .from .now)) (omega arith), le-leb (a .count) (length (a .to .now)) (omega arith)))
+    let e : l .i ≡ c .before .before .args .count = omega arith in
+    rw (← e) (l .inv .2)
 
 pub copy-numbers-spec : {M : Type 1} → statement M
 copy-numbers-spec =
@@ -75,8 +63,6 @@ copy-numbers-spec =
     (tie.spec
     Inv-loop
     μ-loop
-    returns
-    returns-2
     loop-holds
     mul-to
     shared-slice-read-to
@@ -86,4 +72,4 @@ copy-numbers-spec =
     loop-less
     loop-again
     same-length
-    returns-3)
+    returns)
