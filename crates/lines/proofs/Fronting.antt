@@ -6,18 +6,12 @@ use mathlib.Core.Bool.{Bool, true, false, and-false}
 use lib.ListN.{length, take}
 use lib.Dec.{leb}
 use lib.Seq.{take-all, length-take-le}
-use borrow.Author.Tests.{lt-ltb, lt-leb, ne-eqb, leb-true, leb-false}
+use borrow.Author.Tests.{ne-eqb, leb-true, leb-false}
 use native.Mathlib.Omega.{arith}
-use Rattle.element.specs.Octets.{Octets}
-use Rattle.element.specs.Answer.{refused, _>>_, check}
-use Rattle.component.specs.Layout.{headOf, layoutOf}
 use Rattle.operation.specs.Reading.{reading}
+use Rattle.operation.proofs.Readings.{too-long}
 use Rattle.lines.specs.declared.Kept as K
 use Rattle.lines.specs.Listing.{Tagged, tagged, after, lineFor}
-
-too-long : (s : Octets) (given room : ℕ) → 4096 < length s → reading s given room ≡ check (leb 256 room) 1 0 >> refused 2 0
-unfolding reading layoutOf headOf
-too-long s given room h = simp (lt-ltb 0 (length s) (omega arith), lt-leb (length s) 4096 h)
 
 module _ (room : ℕ) (kept : K.Kept) (f : Tagged) (keep : ℕ) (enough : 4097 ≤ keep) where
   abbrev front : Tagged

@@ -1,15 +1,16 @@
 -- The steps of a reading: its row, which does not hang on the place that 11 would point to, and what stands behind them.
-use Prim.Native.Nat.{ℕ, _≤_}
+use Prim.Native.Nat.{ℕ, _≤_, _<_}
 use mathlib.Core.Path.{_≡_, refl, sym, _∙_}
 use mathlib.Core.Bool.{Bool, true, false, _&&_}
 use mathlib.Core.List.{List, [], _∷_, map}
 use mathlib.Core.Logic.{_⊎_, inl, inr, ⊎-elim}
-use lib.Dec.{eqb}
-use borrow.Author.Tests.{le-leb}
+use lib.Dec.{eqb, leb}
+use borrow.Author.Tests.{le-leb, lt-ltb, lt-leb}
+use lib.ListN.{length}
 use native.Mathlib.Omega.{arith}
 use Rattle.element.specs.Octets.{Octets, if}
-use Rattle.element.specs.Answer.{Answer, accepted, refused, _>>_}
-use Rattle.component.specs.Layout.{Layout, layoutAt, layoutOf}
+use Rattle.element.specs.Answer.{Answer, accepted, refused, _>>_, check}
+use Rattle.component.specs.Layout.{Layout, layoutAt, layoutOf, headAt}
 use Rattle.component.specs.Shown.{specifierIn}
 use Rattle.component.proofs.Ends.{Ends, gives, stops}
 use Rattle.operation.specs.Row.{Row}
@@ -68,3 +69,8 @@ module _ (s : Octets) (given room : ℕ) {l : Layout} (h : 256 ≤ room) (e : la
 
   pub no-row : rowOf (l .head .kind) (specifierIn s l given) (l .head .operation) ≡ refused 11 (l .head .operation) → reading s given room ≡ refused 11 (l .head .operation)
   no-row f = laid-reads s 0 given room h e ∙ not-shown s given l f
+
+-- over 4,096 octets nothing but the table is looked at before 2
+pub too-long : (s : Octets) (given room : ℕ) → 4096 < length s → reading s given room ≡ check (leb 256 room) 1 0 >> refused 2 0
+unfolding readingAt layoutAt headAt
+too-long s given room h = simp (lt-ltb 0 (length s) (omega arith), lt-leb (length s) 4096 h)
