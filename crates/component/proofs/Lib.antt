@@ -24,3 +24,4 @@ pub mod Entries
 pub mod Making
 pub mod Outcomes
 pub mod Parent
+pub mod Shift

@@ -6,6 +6,7 @@ pub mod Composed
 pub mod Needed
 pub mod Part
 pub mod Layout
+pub mod Onward
 pub mod Shown
 pub mod Outline
 pub mod Composable

@@ -12,6 +12,7 @@ pub mod Coded
 pub mod Firsts
 pub mod Noting
 pub mod Reading
+pub mod Inside
 pub mod Writing
 pub mod Told
 pub mod Sheet

@@ -1,0 +1,86 @@
+-- A component read behind other octets is the component read alone, with every place moved on by as many.
+use Prim.Native.Nat.{ℕ, _+_, _<_, _≤_}
+use mathlib.Core.Path.{_≡_, refl}
+use mathlib.Core.Bool.{Bool, true, false, not}
+use mathlib.Core.Logic.{⊎-elim}
+use mathlib.Core.List.{List, [], _∷_, _++_, map}
+use lib.ListN.{length}
+use lib.Dec.{eqb}
+use borrow.Author.Tests.{eqb-true, lt-ltb, le-leb}
+use Rattle.element.specs.Octets.{Octets, if}
+use Rattle.element.specs.Answer.{Answer, accepted, refused}
+use Rattle.component.specs.Table.{Entry}
+use Rattle.component.specs.Layout.{Layout, layoutAt, layoutFrom, headAt}
+use Rattle.component.specs.Onward.{entryOn}
+use Rattle.component.proofs.Shift.{Detail, on, kept, On, both, stop, Any, By, equation, then, part, layout-on, specifier-on}
+use Rattle.operation.specs.Row.{Row, Item}
+use Rattle.operation.specs.Judge.{judge, pointed, remark}
+use Rattle.operation.specs.Finding.{rowOf}
+use Rattle.operation.specs.Items.{itemOf}
+use Rattle.operation.specs.Faults.{RowFault, again, missing}
+use Rattle.operation.specs.Faults as F
+use Rattle.operation.specs.Reading.{countOther, shownOf, readingFrom, readingAt, reading}
+use Rattle.operation.specs.Inside.{shownOn, Shifts}
+use Rattle.operation.proofs.Marks.{marked, count-marked}
+use Rattle.operation.proofs.RowFaults.{row-faulty}
+use Rattle.operation.proofs.Readings.{either-row}
+
+module _ (pre c : Octets) where
+  abbrev n : ℕ
+  n = length pre
+
+  abbrev s : Octets
+  s = pre ++ c
+
+  marks-on : (es : List Entry) → map itemOf (map (entryOn n) es) ≡ map (remark (λ d. n + d)) (map itemOf es)
+  unfolding itemOf remark
+  marks-on [] = refl
+  marks-on (e ∷ es) = rw (marks-on es) refl
+
+  other-marked : (row : Row) (xs : List Item) → countOther row (map (remark (λ d. n + d)) xs) ≡ countOther row xs
+  unfolding countOther remark
+  other-marked row [] = refl
+  other-marked row (x ∷ xs) = rw (other-marked row xs) refl
+
+  row-on : (kind specifier at at′ : ℕ) → Detail n 11 at at′ → On n _≡_ (rowOf kind specifier at) (rowOf kind specifier at′)
+  row-on kind specifier at at′ q = ⊎-elim (λ (row, f). rw (f at, f at′) (both refl)) (λ f. rw (f at, f at′) (stop q)) (either-row kind specifier)
+
+  eleven : (l : Layout) → eqb (l .head .operation) 0 ≡ not (eqb (l .head .kind) 0xE9) →
+      Detail n 11 (l .head .operation) (if (eqb (l .head .kind) 0xE9) (n + l .head .operation) 0)
+  eleven l p = go (eqb (l .head .kind) 0xE9) p
+    where
+      go : (t : Bool) → eqb (l .head .operation) 0 ≡ not t → Detail n 11 (l .head .operation) (if t (n + l .head .operation) 0)
+      go true e = on e refl
+      go false e = let z : l .head .operation ≡ 0 = eqb-true _ 0 e in rw z (kept refl)
+
+  pointing : {row : Row} {xs : List Item} {k d : ℕ} → RowFault row xs k d → Detail n k d (if (eqb k 13) d (n + d))
+  pointing (again before x behind e o m r u) = on refl refl
+  pointing (missing o f) = kept refl
+  pointing (F.both o e f y) = on refl refl
+
+  judged-on : (row : Row) (xs : List Item) → On n Any (judge row xs) (judge row (map (remark (λ d. n + d)) xs))
+  unfolding pointed
+  judged-on row xs = rw (marked (λ d. n + d) row xs) (go (judge row xs) refl)
+    where
+      go : (a : Answer Unit) → judge row xs ≡ a → On n Any a (pointed (λ d. n + d) a)
+      go (accepted x) e = both tt
+      go (refused k d) e = stop (pointing (row-faulty row xs e))
+
+  reading-on : (given : ℕ) → On n (By (shownOn n)) (readingFrom c 0 given) (readingFrom s n given)
+  unfolding readingFrom shownOf
+  reading-on given =
+      then (layout-on pre c) λ l l′ e.
+      rw (e .is, specifier-on pre c l given)
+      (then (row-on _ _ _ _ (eleven l (e .points))) λ row row′ q.
+      rw (← q, marks-on (l .entries))
+      (then (judged-on row (map itemOf (l .entries))) λ _ _ _.
+      both (rw (part pre c (l .head .id .start) (l .head .id .end), count-marked (λ d. n + d) row (map itemOf (l .entries)), other-marked row (map itemOf (l .entries))) refl)))
+
+pub shift : Shifts
+unfolding Shifts
+shift pre c given = equation (shownOn (length pre)) (reading-on pre c given)
+
+-- the lone reader starts at 0
+pub alone : (c : Octets) (given room : ℕ) → 256 ≤ room → 0 < length c → length c ≤ 4096 → reading c given room ≡ readingFrom c 0 given
+unfolding readingAt layoutAt headAt readingFrom layoutFrom
+alone c given room h k l = simp (le-leb 256 room h, lt-ltb 0 (length c) k, le-leb (length c) 4096 l) refl
