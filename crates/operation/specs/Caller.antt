@@ -30,6 +30,10 @@ pub record Order : Type 0 where
   pub table : List ℕ
   pub source : Octets
 
+abbrev pub order : (kind : ℕ) (id : D.Id) (specifier count : ℕ) (table : List ℕ) (source : Octets) → Order
+order kind id specifier count table source =
+    record { kind = kind; id = id; specifier = specifier; count = count; table = table; source = source }
+
 pub record Wrote : Type 0 where
   pub answer : Answer ℕ
   pub output : Octets

@@ -19,7 +19,7 @@ use Rattle.operation.specs.Rows.{operations}
 use Rattle.operation.specs.Book.{Fits}
 use Rattle.operation.specs.Faults.{RowFault}
 use Rattle.operation.specs.Items.{itemOf, itemsOf}
-use Rattle.operation.specs.Caller.{Told, Read, Reader, Order, Writer}
+use Rattle.operation.specs.Caller.{Told, Read, Reader, Order, order, Writer}
 
 abbrev pub keyOf : Parameter → ℕ
 keyOf p = key (p .number) (p .form)
@@ -126,8 +126,7 @@ pub record Demand2 (r : Reader) (w : Writer) : Type 0 where
       (w o out .answer ≡ accepted (length (composed (made o)))) × (w o out .output ≡ composed (made o) ++ drop (length (composed (made o))) out)
   -- writing what was read returns the same octets
   pub read-then-write : (s : Octets) (given : ℕ) (t : List ℕ) (out : Octets) {x : Told} → AreOctets s → r s given t .answer ≡ accepted x →
-      length s ≤ length out → w (record { kind = x .kind; id = x .id; specifier = x .specifier; count = x .all; table = r s given t .table; source = s }) out
-      ≡ record { answer = accepted (length s); output = s ++ drop (length s) out }
+      length s ≤ length out → w (order (x .kind) (x .id) (x .specifier) (x .all) (r s given t .table) s) out ≡ record { answer = accepted (length s); output = s ++ drop (length s) out }
   -- reading what was written returns the same type, ID octets, specifier, identifiers and contents
   pub write-then-read : (o : Order) (out : Octets) (t : List ℕ) {n : ℕ} → o .specifier < 256 → w o out .answer ≡ accepted n → 256 ≤ length t →
       AreOctets (take n (w o out .output)) → (x : Told) × (r (take n (w o out .output)) (o .specifier) t .answer ≡ accepted x)

@@ -15,7 +15,6 @@ use sheet::parameters_from;
 ghost use mathlib.Core.Path.{_≡_};
 ghost use Prim.Native.Nat.{_*_, _<_, _≤_};
 ghost use lib.ListN.{length};
-ghost use Rattle.component.specs.Composing.{written, outputAfter};
 ghost use Rattle.operation.specs.Coded.{judgedIn};
 ghost use Rattle.operation.specs.Finishing.{
   specifierFor,
@@ -24,8 +23,9 @@ ghost use Rattle.operation.specs.Finishing.{
   finished,
   tableFinished,
 };
-ghost use Rattle.operation.specs.Reading.{reading, readingAt, tableAfter};
-ghost use Rattle.operation.specs.Writing.{writing};
+ghost use Rattle.operation.specs.Caller.{order};
+ghost use Rattle.operation.specs.Reading.{readingAt, tableAfter};
+ghost use Rattle.operation.specs.Model.{reader, writer};
 ghost use Rattle.operation.specs.Told.{told, answerIn, writtenIn};
 
 // What the engine says of a run of parameters; it points by entries.
@@ -182,9 +182,8 @@ pub fn read_from(octets: &[u8], from: usize, specifier: u8, table: &mut [u16]) -
 
 // Reads a component.
 pub fn read(component: &[u8], specifier: u8, table: &mut [u16]) -> Reading
-    ensures { λ r. ⌜ (answerIn r ≡ told (reading (now (component .entry)) specifier (length (now (table .entry)))))
-        × (now (table .exit) ≡ tableAfter (now (table .entry))
-        (reading (now (component .entry)) specifier (length (now (table .entry))))) ⌝ }
+    ensures { λ r. ⌜ (answerIn r ≡ reader (now (component .entry)) specifier (now (table .entry)) .answer)
+        × (now (table .exit) ≡ reader (now (component .entry)) specifier (now (table .entry)) .table) ⌝ }
 {
     read_from(component, 0, specifier, table)
 }
@@ -202,8 +201,10 @@ pub fn write(
     source: &[u8],
     out: &mut [u8],
 ) -> Writing
-    ensures { λ r. ⌜ (writtenIn r ≡ written (writing kind id specifier count (now (table .entry)) (now (source .entry)) (length (now (out .entry)))))
-        × (now (out .exit) ≡ outputAfter (now (out .entry)) (writing kind id specifier count (now (table .entry)) (now (source .entry)) (length (now (out .entry))))) ⌝ }
+    ensures { λ r. ⌜ (writtenIn r ≡
+        writer (order kind id specifier count (now (table .entry)) (now (source .entry))) (now (out .entry)) .answer)
+        × (now (out .exit) ≡
+        writer (order kind id specifier count (now (table .entry)) (now (source .entry))) (now (out .entry)) .output) ⌝ }
 {
     match component::measure(kind, id, count, table, source) {
         Measured::Octets { whole: _, set: _ } => {

@@ -5,10 +5,8 @@ use operation::Writing;
 ghost use mathlib.Core.Path.{_≡_};
 ghost use mathlib.Core.List.{[], _∷_};
 ghost use lib.ListN.{length};
-ghost use Rattle.component.specs.Composing.{outputAfter, written};
-ghost use Rattle.operation.specs.Reading.{reading, tableAfter};
-ghost use Rattle.operation.specs.Told.{told};
-ghost use Rattle.operation.specs.Writing.{writing};
+ghost use Rattle.operation.specs.Caller.{order};
+ghost use Rattle.operation.specs.Model.{reader, writer};
 ghost use Rattle.roadquill.specs.Packed.{octets, numberWith, idFrom, packedReading, packedWriting};
 
 // An answer's number in octet 0, and what goes with it in octets 1 to 4.
@@ -33,8 +31,8 @@ fn shown(kind: u8, count: u8, first: u8, second: u8, specifier: u8, all: u8, nam
 // it was.
 #[no_mangle]
 pub extern "C" fn roadquill_read(component: &[u8], specifier: u8, table: &mut [u16]) -> u64
-    ensures { λ r. ⌜ (r ≡ packedReading (told (reading (now (component .entry)) specifier (length (now (table .entry))))))
-        × (now (table .exit) ≡ tableAfter (now (table .entry)) (reading (now (component .entry)) specifier (length (now (table .entry))))) ⌝ }
+    ensures { λ r. ⌜ (r ≡ packedReading (reader (now (component .entry)) specifier (now (table .entry)) .answer))
+        × (now (table .exit) ≡ reader (now (component .entry)) specifier (now (table .entry)) .table) ⌝ }
 {
     match operation::read(component, specifier, table) {
         Reading::Accepted {
@@ -69,8 +67,10 @@ pub extern "C" fn roadquill_write(
     source: &[u8],
     output: &mut [u8],
 ) -> u64
-    ensures { λ r. ⌜ (r ≡ packedWriting (written (writing kind (idFrom count first second) specifier entries (now (table .entry)) (now (source .entry)) (length (now (output .entry))))))
-        × (now (output .exit) ≡ outputAfter (now (output .entry)) (writing kind (idFrom count first second) specifier entries (now (table .entry)) (now (source .entry)) (length (now (output .entry))))) ⌝ }
+    ensures { λ r. ⌜ (r ≡ packedWriting (writer (order kind (idFrom count first second) specifier entries
+        (now (table .entry)) (now (source .entry))) (now (output .entry)) .answer))
+        × (now (output .exit) ≡ writer (order kind (idFrom count first second) specifier entries
+        (now (table .entry)) (now (source .entry))) (now (output .entry)) .output) ⌝ }
 {
     let id = Id {
         count,
