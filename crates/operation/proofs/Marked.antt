@@ -12,9 +12,8 @@ use Rattle.operation.specs.Row.{Row, Item}
 use Rattle.operation.specs.Judge.{judge, remark, pointed}
 use Rattle.operation.specs.Newcomers as N
 use Rattle.operation.specs.Items.{itemOf}
-use Rattle.operation.specs.Demands.{keyOf, Joined, done, kept, newcomer, moved}
+use Rattle.operation.specs.Demands.{placeIn, keyOf, Joined, done, kept, newcomer, moved}
 use Rattle.operation.proofs.Marks.{marked}
-use Rattle.operation.proofs.Places.{placeAt}
 
 -- the i-th is marked by `f i`
 pub marks : (ℕ → ℕ) → List Parameter → List Item
@@ -41,8 +40,8 @@ index f (p ∷ ps) (List·Memᴰ·tail m) = let (i, h, e) = index (λ i. f (suc 
 pub inside : (ps : List Parameter) {x : Item} → List·Memᴰ x (indexed ps) → x .mark < length ps
 inside ps m = omega (arith, index (λ i. i) ps m)
 
-pub items : {s : Octets} {es : List Entry} {ps : List Parameter} → Pairwise (Shows s) es ps → (map itemOf es ≡ marks (placeAt es) ps) × (length es ≡ length ps)
-unfolding itemOf marks placeAt
+pub items : {s : Octets} {es : List Entry} {ps : List Parameter} → Pairwise (Shows s) es ps → (map itemOf es ≡ marks (placeIn es) ps) × (length es ≡ length ps)
+unfolding itemOf marks placeIn
 items none = (refl, refl)
 items (more h w) = let (e, l) = items w in (rw (h .number, h .form, e), omega arith)
 

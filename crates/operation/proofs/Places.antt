@@ -12,18 +12,13 @@ use Rattle.operation.specs.Row.{Item, key}
 use Rattle.operation.specs.Judge.{remark}
 use Rattle.operation.specs.Coded.{itemAt, itemsFrom}
 use Rattle.operation.specs.Items.{itemOf}
+use Rattle.operation.specs.Demands.{placeIn}
 use Rattle.operation.specs.Finishing.{placeFrom}
 
 -- the entries as a row sees them, marked by where they stand in the order, from `i` on
 unfoldable pub indexed : ℕ → List Entry → List Item
 indexed i [] = []
 indexed i (e ∷ es) = record { is = key (e .number) (e .form); mark = i } ∷ indexed (i + 1) es
-
--- the place of the i-th
-unfoldable pub placeAt : List Entry → ℕ → ℕ
-placeAt [] i = 0
-placeAt (e ∷ es) zero = e .place
-placeAt (e ∷ es) (suc i) = placeAt es i
 
 -- ---- the sheet holds them
 at-entry : (pre : List ℕ) (i : ℕ) (rest : List ℕ) (k : ℕ) → length pre ≡ 4 * i → getD (pre ++ rest) (4 * i + k) 0 ≡ getD rest k 0
@@ -46,16 +41,16 @@ unfolding tableWith
 sheet-items es z = from-sheet es [] (drop (length (numbers es)) z) 0 refl
 
 -- ---- places follow
-by-place : (f : ℕ → ℕ) (es : List Entry) (i : ℕ) → ((k : ℕ) → k < length es → f (i + k) ≡ placeAt es k) → map (remark f) (indexed i es) ≡ map itemOf es
-unfolding indexed remark itemOf placeAt
+by-place : (f : ℕ → ℕ) (es : List Entry) (i : ℕ) → ((k : ℕ) → k < length es → f (i + k) ≡ placeIn es k) → map (remark f) (indexed i es) ≡ map itemOf es
+unfolding indexed remark itemOf placeIn
 by-place f [] i h = refl
 by-place f (e ∷ es) i h =
     let here : f i ≡ e .place = rw add-zero at (h 0 (omega arith)) in
-    let later : (k : ℕ) → k < length es → f (i + 1 + k) ≡ placeAt es k = λ k l. rw (let e : i + 1 + k ≡ i + suc k = omega arith in e) (h (suc k) (omega arith)) in
+    let later : (k : ℕ) → k < length es → f (i + 1 + k) ≡ placeIn es k = λ k l. rw (let e : i + 1 + k ≡ i + suc k = omega arith in e) (h (suc k) (omega arith)) in
     ap₂ (λ x xs. x ∷ xs) (ap (λ p. record { is = key (e .number) (e .form); mark = p }) here) (by-place f es (i + 1) later)
 
-pub placed-items : (es : List Entry) → map (remark (placeAt es)) (indexed 0 es) ≡ map itemOf es
-placed-items es = by-place (placeAt es) es 0 (λ k h. rw zero-add)
+pub placed-items : (es : List Entry) → map (remark (placeIn es)) (indexed 0 es) ≡ map itemOf es
+placed-items es = by-place (placeIn es) es 0 (λ k h. rw zero-add)
 
 -- the place of each entry is what the sheet gives for it: where the one before it ends
 first-place : {at : ℕ} {e : Entry} {es : List Entry} → Contiguous at (e ∷ es) → at ≡ e .place
@@ -65,8 +60,8 @@ later-ones : {at : ℕ} {e : Entry} {es : List Entry} → Contiguous at (e ∷ e
 later-ones (more h c) = c
 
 next-place : (es : List Entry) (rest : List ℕ) {at : ℕ} → Contiguous at es → (j : ℕ) → suc j < length es →
-    getD (numbers es ++ rest) (4 * j + 2) 0 + getD (numbers es ++ rest) (4 * j + 3) 0 ≡ placeAt es (suc j)
-unfolding numbers placeAt
+    getD (numbers es ++ rest) (4 * j + 2) 0 + getD (numbers es ++ rest) (4 * j + 3) 0 ≡ placeIn es (suc j)
+unfolding numbers placeIn
 next-place [] rest c j h = absurd (omega arith)
 next-place (e ∷ []) rest c j h = absurd (omega arith)
 next-place (e ∷ (f ∷ es)) rest c zero h = first-place (later-ones c)
@@ -75,8 +70,8 @@ next-place (e ∷ (f ∷ es)) rest c (suc j) h =
     let b : 4 * suc j + 3 ≡ suc (suc (suc (suc (4 * j + 3)))) = omega arith in
     rw (a, b) (next-place (f ∷ es) rest (later-ones c) j (omega arith))
 
-pub sheet-place : (es : List Entry) (z : List ℕ) {set : ℕ} → Contiguous set es → (i : ℕ) → i < length es → placeFrom (tableWith es z) set i ≡ placeAt es i
-unfolding tableWith placeFrom placeAt
+pub sheet-place : (es : List Entry) (z : List ℕ) {set : ℕ} → Contiguous set es → (i : ℕ) → i < length es → placeFrom (tableWith es z) set i ≡ placeIn es i
+unfolding tableWith placeFrom placeIn
 sheet-place [] z c zero h = absurd (omega arith)
 sheet-place (e ∷ es) z c zero h = first-place c
 sheet-place es z c (suc i) h = next-place es (drop (length (numbers es)) z) c i h

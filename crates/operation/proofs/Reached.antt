@@ -16,6 +16,7 @@ use Rattle.component.specs.Shown.{specifierIn}
 use Rattle.component.specs.Outline.{headingOf, specifierAt}
 use Rattle.component.proofs.Entries.{numbers-length}
 use Rattle.component.proofs.Laying.{Ordered}
+use Rattle.operation.specs.Demands.{placeIn}
 use Rattle.operation.specs.declared.Judged as J
 use Rattle.operation.specs.declared.Judged.the-variants as JV
 use Rattle.operation.specs.Row.{Row, Item, named}
@@ -30,7 +31,7 @@ use Rattle.operation.specs.Finishing.{specifierFor, Pointing, detailOf, 
 use Rattle.operation.proofs.Marks.{marked, count-marked}
 use Rattle.operation.proofs.RowFaults.{row-faulty, pointed-at}
 use Rattle.operation.proofs.Readings.{either-row, shown-by, not-shown}
-use Rattle.operation.proofs.Places.{indexed, placeAt, sheet-items, placed-items, sheet-place}
+use Rattle.operation.proofs.Places.{indexed, sheet-items, placed-items, sheet-place}
 
 -- ---- counts and marks of a run
 pub all-counted : (row : Row) (xs : List Item) → countNamed row xs + countOther row xs ≡ length xs
@@ -77,24 +78,24 @@ module _ (s : Octets) (given : ℕ) (z : List ℕ) {l : Layout} (w : Ordered s l
     below f h = let (x, m, e) = pointed-at f h in omega (arith, mark-below (l .entries) 0 x m)
 
     pointing-at : {n d : ℕ} → RowFault row (indexed 0 (l .entries)) n d →
-        detailOf (headingOf s (l .head)) (tableWith (l .entries) z) n d ≡ if (eqb n 13) d (placeAt (l .entries) d)
+        detailOf (headingOf s (l .head)) (tableWith (l .entries) z) n d ≡ if (eqb n 13) d (placeIn (l .entries) d)
     unfolding detailOf headingOf
     pointing-at (again before x behind p q r u v) = sheet-place (l .entries) z (w .contiguous) (x .mark) (below (again before x behind p q r u v) (λ z. omega arith))
     pointing-at (missing q f) = refl
     pointing-at (both {x = x} q p f y) = sheet-place (l .entries) z (w .contiguous) (x .mark) (below (both q p f y) (λ z. omega arith))
 
-    by-place : judge row (map itemOf (l .entries)) ≡ pointed (placeAt (l .entries)) (judge row (indexed 0 (l .entries)))
-    by-place = rw (← placed-items (l .entries)) (marked (placeAt (l .entries)) row (indexed 0 (l .entries)))
+    by-place : judge row (map itemOf (l .entries)) ≡ pointed (placeIn (l .entries)) (judge row (indexed 0 (l .entries)))
+    by-place = rw (← placed-items (l .entries)) (marked (placeIn (l .entries)) row (indexed 0 (l .entries)))
 
     same-count : countNamed row (map itemOf (l .entries)) ≡ countNamed row (indexed 0 (l .entries))
-    same-count = rw (← placed-items (l .entries)) (count-marked (placeAt (l .entries)) row (indexed 0 (l .entries)))
+    same-count = rw (← placed-items (l .entries)) (count-marked (placeIn (l .entries)) row (indexed 0 (l .entries)))
 
     others : length (l .entries) - countNamed row (indexed 0 (l .entries)) ≡ countOther row (map itemOf (l .entries))
     others = omega (arith, all-counted row (map itemOf (l .entries)), length-items (l .entries), same-count)
 
     judged : (a : Answer Unit) → judge row (indexed 0 (l .entries)) ≡ a →
         finished (headingOf s (l .head)) (specifierIn s l given) (length (l .entries)) (tableWith (l .entries) z) (a >>= λ _. accepted (countNamed row (indexed 0 (l .entries))))
-        ≡ told (pointed (placeAt (l .entries)) a >>= λ _. accepted (shownBy s l given row))
+        ≡ told (pointed (placeIn (l .entries)) a >>= λ _. accepted (shownBy s l given row))
     unfolding finished told pointed headingOf
     judged (accepted u) q = simp (others, same-count)
     judged (refused n d) q = ap (refused n) (pointing-at (row-faulty row (indexed 0 (l .entries)) q))
@@ -122,7 +123,7 @@ module _ (s : Octets) (given : ℕ) (z : List ℕ) {l : Layout} (w : Ordered s l
 
     shows : (t : List ℕ) (a : Answer Unit) →
         tableFinished (length (l .entries)) (tableWith (l .entries) z) t (a >>= λ _. accepted (countNamed row (indexed 0 (l .entries))))
-        ≡ tableAfter t (pointed (placeAt (l .entries)) a >>= λ _. accepted (shownBy s l given row))
+        ≡ tableAfter t (pointed (placeIn (l .entries)) a >>= λ _. accepted (shownBy s l given row))
     unfolding tableFinished tableAfter pointed
     shows t (accepted u) = copies (l .entries) z t
     shows t (refused n d) = refl

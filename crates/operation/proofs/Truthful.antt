@@ -1,15 +1,15 @@
 -- Demand 3 of ours: a component with newcomers that its row does not name is read as without them.
-use Prim.Native.Nat.{ℕ, zero, suc, _+_, _≤_}
+use Prim.Native.Nat.{ℕ, _+_, _≤_}
 use mathlib.Core.Path.{_≡_, refl, ap, ap₂, _∙_}
 use mathlib.Core.Bool.{Bool, true, false, not}
-use mathlib.Core.List.{List, [], _∷_, map}
+use mathlib.Core.List.{List, map}
 use mathlib.Core.Logic.{inl, inr}
 use lib.ListN.{length}
 use lib.Dec.{eqb}
 use native.Mathlib.Omega.{arith}
 use Rattle.element.specs.Octets.{Octets, AreOctets, if}
 use Rattle.element.specs.Answer.{Answer, accepted, refused}
-use Rattle.component.specs.Table.{Entry, tableWith}
+use Rattle.component.specs.Table.{tableWith}
 use Rattle.component.specs.Grammar.{Parameter, Component, parametersOf, kindOf, identifierOf, specifierOf}
 use Rattle.component.specs.Faults.{LaidOut}
 use Rattle.component.specs.Shown.{Shows, Pairwise}
@@ -22,18 +22,11 @@ use Rattle.operation.specs.Items.{itemOf}
 use Rattle.operation.specs.Demands.{RowFor, keyOf, tally, ReaderRefuses, tells, Joined, done, kept, newcomer, moved, newcomers, joined, placeIn, Truthful, both-accepted, same-missing, same-parameter, Demand3}
 use Rattle.operation.specs.Model.{reader, Ours}
 use Rattle.operation.proofs.Untouched.{untouched}
-use Rattle.operation.proofs.Places.{placeAt}
 use Rattle.operation.proofs.Marked.{indexed, judged, inside, items, grown}
 use Rattle.operation.proofs.Keys.{fits-read}
 use Rattle.operation.proofs.RowFaults.{row-faulty, pointed-at}
 use Rattle.operation.proofs.Model.{demand1-ours, demand2-ours}
 use Rattle.operation.proofs.OnlyOne.{reader-refuses, reader-accepts, refused-so}
-
-same-place : (es : List Entry) (i : ℕ) → placeAt es i ≡ placeIn es i
-unfolding placeAt placeIn
-same-place [] i = refl
-same-place (e ∷ es) zero = refl
-same-place (e ∷ es) (suc i) = same-place es i
 
 -- ---- what the newcomers add
 one-more : (t : Bool) (a b n : ℕ) → a ≡ b + n → if t (1 + a) a ≡ if t (1 + b) b + n
@@ -79,10 +72,10 @@ module _ (given : ℕ) (t : List ℕ) (enough : 256 ≤ length t) {row : Row} wh
       (kind : kindOf d ≡ kindOf c) (id : identifierOf d ≡ identifierOf c) (specifier : specifierOf d given ≡ specifierOf c given)
       (e : RowFor (kindOf c) (specifierOf c given) row) (j : Joined row (parametersOf c) (parametersOf d)) where
     abbrev f : ℕ → ℕ
-    f = placeAt (standing (h .laid))
+    f = placeIn (standing (h .laid))
 
     abbrev g : ℕ → ℕ
-    g i = placeAt (standing (k .laid)) (moved j i)
+    g i = placeIn (standing (k .laid)) (moved j i)
 
     its-row : RowFor (kindOf d) (specifierOf d given) row
     its-row = rw (kind, specifier) e
@@ -91,7 +84,7 @@ module _ (given : ℕ) (t : List ℕ) (enough : 256 ≤ length t) {row : Row} wh
     older = rw (items (shows o h e) .0) (judged row f (parametersOf c))
 
     newer : judge row (map itemOf (standing (k .laid))) ≡ pointed g (judge row (indexed (parametersOf c)))
-    newer = rw (items (shows b k its-row) .0) (untouched row _ _ (grown (placeAt (standing (k .laid))) j) ∙ judged row g (parametersOf c))
+    newer = rw (items (shows b k its-row) .0) (untouched row _ _ (grown (placeIn (standing (k .laid))) j) ∙ judged row g (parametersOf c))
 
     told-more : tells given d row ≡ joined (tells given c row) (newcomers j)
     told-more = rw (specifier, kind, id, more-parameters j, as-many-named j, more-others j)
@@ -100,11 +93,11 @@ module _ (given : ℕ) (t : List ℕ) (enough : 256 ≤ length t) {row : Row} wh
         Truthful (h .laid) (k .laid) j t (record { answer = refused n (if (eqb n 13) i (f i)); table = t }) (record { answer = refused n (if (eqb n 13) i (g i)); table = t })
     refused-both n i (again before x behind e o m r u) =
         let (y, mem, mark) = pointed-at (again before x behind e o m r u) (λ z. omega arith) in
-        rw (same-place (standing (h .laid)) (x .mark), same-place (standing (k .laid)) (moved j (x .mark))) (same-parameter 12 (x .mark) (inl refl) (rw mark at (inside (parametersOf c) mem)))
+        (same-parameter 12 (x .mark) (inl refl) (rw mark at (inside (parametersOf c) mem)))
     refused-both n i (missing _ _) = same-missing _
     refused-both n i (both {x = x} o e p y) =
         let (z, mem, mark) = pointed-at (both o e p y) (λ z. omega arith) in
-        rw (same-place (standing (h .laid)) (x .mark), same-place (standing (k .laid)) (moved j (x .mark))) (same-parameter 14 (x .mark) (inr refl) (rw mark at (inside (parametersOf c) mem)))
+        (same-parameter 14 (x .mark) (inr refl) (rw mark at (inside (parametersOf c) mem)))
 
     verdict : (a : Answer Unit) → judge row (indexed (parametersOf c)) ≡ a → Truthful (h .laid) (k .laid) j t (reader s given t) (reader u given t)
     unfolding pointed
