@@ -1,4 +1,4 @@
--- Octets lay out one component, and a component has one layout.
+-- Octets lay out one component.
 use Prim.Native.Nat.{ℕ}
 use mathlib.Core.Path.{_≡_, refl, sym, ap, _∙_}
 use mathlib.Core.List.{List, [], _++_, append-assoc}
@@ -13,7 +13,6 @@ use Rattle.element.proofs.LengthLaws as L
 use Rattle.element.proofs.IdentifierLaws as I
 use Rattle.component.specs.Grammar.{Parameter, Element, laid, Parameters, none, more, Component, Laid, invoked, answered}
 use Rattle.component.proofs.Complete.{longer, first-octet}
-use Rattle.component.proofs.Composes.{is-composed}
 
 -- the same octets, cut at the same place
 cut : (a a′ b b′ : Octets) → length a ≡ length a′ → a ++ b ≡ a′ ++ b′ → (a ≡ a′) × (b ≡ b′)
@@ -69,6 +68,3 @@ functional (invoked id o ps i c f set s a b w n r v x) (answered id′ ps′ i�
     let z = sym (first-octet x []) ∙ first-octet x′ [] in absurd (omega arith)
 functional (answered id ps i f set s a w r v x) (invoked id′ o′ ps′ i′ c′ f′ set′ t a′ b′ w′ n′ r′ v′ x′) =
     let z = sym (first-octet x []) ∙ first-octet x′ [] in absurd (omega arith)
-
-pub one-layout : {c : Component} {s t : Octets} → Laid c s → Laid c t → s ≡ t
-one-layout a b = is-composed a ∙ sym (is-composed b)

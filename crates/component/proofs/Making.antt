@@ -5,7 +5,7 @@ use mathlib.Core.Bool.{true, _||_}
 use mathlib.Core.List.{List, [], _∷_}
 use mathlib.Core.Logic.{inl, inr}
 use lib.ListN.{length}
-use lib.Dec.{leb, eqb}
+use lib.Dec.{eqb}
 use borrow.Author.Tests.{le-leb, eq-eqb}
 use native.Mathlib.Omega.{arith}
 use Rattle.element.specs.Octets.{Octets}
@@ -18,7 +18,6 @@ use Rattle.component.specs.Composed.{composed}
 use Rattle.component.specs.Composable.{Composable, Typed, Identified}
 use Rattle.component.specs.Composing.{entriesFrom, idFits, entriesOf, octetsOf}
 use Rattle.component.specs.Needed.{octetsNeeded}
-use Rattle.component.proofs.Taken.{passed}
 use Rattle.component.proofs.Composition.{Kinds, id-length}
 use Rattle.component.proofs.Measuring.{ready}
 use Rattle.component.proofs.Sizes.{sized}
@@ -95,7 +94,3 @@ module _ (kind : ℕ) (id : D.Id) (specifier : ℕ) (ps : List Parameter) where
       let r = ready kind id count t source e in
       let (i, v) = entries-stand t source 0 count (r .entries) in
       (made (r .allowed) h i (r .short), r .entries, omega (arith, r .few))
-
-  pub octets-are : (room : ℕ) {s : Octets} → octetsOf kind id specifier ps room ≡ accepted s → s ≡ composed (componentOf kind id specifier ps)
-  unfolding octetsOf
-  octets-are room e = let f = passed (leb (octetsNeeded kind (id .count) ps) room) 17 (octetsNeeded kind (id .count) ps) e .1 in cc

@@ -46,9 +46,6 @@ eqb-on n a b = go (eqb a b) refl
 less-on : (n a b : ℕ) → (n + a) - (n + b) ≡ a - b
 less-on n a b = omega arith
 
-plus-on : (n a b : ℕ) → n + a + b ≡ n + (a + b)
-plus-on n a b = omega arith
-
 -- ---- an answer, and the same `n` octets further on
 pub data Detail (n : ℕ) : (number alone there : ℕ) → Type 0 where
   on : {k d e : ℕ} → keeps k d ≡ false → e ≡ n + d → Detail n k d e
