@@ -180,7 +180,7 @@ pub fn read_from(octets: &[u8], from: usize, specifier: u8, table: &mut [u16]) -
     }
 }
 
-// Reads a component.
+// Reads a component that is all of the octets.
 pub fn read(component: &[u8], specifier: u8, table: &mut [u16]) -> Reading
     ensures { λ r. ⌜ (answerIn r ≡ told (reading (now (component .entry)) specifier (length (now (table .entry)))))
         × (now (table .exit) ≡ tableAfter (now (table .entry))
