@@ -129,6 +129,7 @@ pub record Layout : Type 0 where
   pub head : Head
   pub entries : List Entry
 
+-- a head, and the parameters of its set
 unfoldable pub layoutBehind : Octets → Head → Answer Layout
 layoutBehind s h = do
   es ← parameters 64 s (h .set .start) (h .set .end)

@@ -1,23 +1,23 @@
 -- The steps of a reading: its row, which does not hang on the place that 11 would point to, and what stands behind them.
-use Prim.Native.Nat.{ℕ, _≤_, _<_}
+use Prim.Native.Nat.{ℕ, _<_, _≤_}
 use mathlib.Core.Path.{_≡_, refl, sym, _∙_}
 use mathlib.Core.Bool.{Bool, true, false, _&&_}
 use mathlib.Core.List.{List, [], _∷_, map}
 use mathlib.Core.Logic.{_⊎_, inl, inr, ⊎-elim}
+use lib.ListN.{length}
 use lib.Dec.{eqb, leb}
 use borrow.Author.Tests.{le-leb, lt-ltb, lt-leb}
-use lib.ListN.{length}
 use native.Mathlib.Omega.{arith}
 use Rattle.element.specs.Octets.{Octets, if}
 use Rattle.element.specs.Answer.{Answer, accepted, refused, _>>_, check}
-use Rattle.component.specs.Layout.{Layout, layoutAt, layoutOf, headAt}
+use Rattle.component.specs.Layout.{headAt, Layout, layoutFrom, layoutAt, layoutOf}
 use Rattle.component.specs.Shown.{specifierIn}
 use Rattle.component.proofs.Ends.{Ends, gives, stops}
 use Rattle.operation.specs.Row.{Row}
 use Rattle.operation.specs.Judge.{judge}
 use Rattle.operation.specs.Rows.{Operation, operations}
 use Rattle.operation.specs.Finding.{find, rowOf}
-use Rattle.operation.specs.Reading.{shownBy, shownOf, readingAt, reading}
+use Rattle.operation.specs.Reading.{shownBy, shownOf, readingFrom, readingAt, reading}
 use Rattle.operation.specs.Items.{itemOf}
 
 -- a row is there, or 11 points wherever it is told to
@@ -61,6 +61,11 @@ module _ (s : Octets) (given : ℕ) (l : Layout) where
 pub laid-reads : (s : Octets) (from given room : ℕ) {l : Layout} → 256 ≤ room → layoutAt s from ≡ accepted l → readingAt s from given room ≡ shownOf s given l
 unfolding readingAt
 laid-reads s from given room h e = simp (le-leb 256 room, e)
+
+-- where 1 and 2 are not the answer
+pub within : (s : Octets) (from given room : ℕ) → 256 ≤ room → from < length s → length s ≤ 4096 → readingAt s from given room ≡ readingFrom s from given
+unfolding readingAt readingFrom layoutAt layoutFrom headAt
+within s from given room h k m = simp (le-leb 256 room, lt-ltb from (length s), le-leb (length s) 4096)
 
 module _ (s : Octets) (given room : ℕ) {l : Layout} (h : 256 ≤ room) (e : layoutOf s ≡ accepted l) where
   pub reads : {row : Row} → rowOf (l .head .kind) (specifierIn s l given) (l .head .operation) ≡ accepted row →

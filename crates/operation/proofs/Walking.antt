@@ -34,18 +34,18 @@ behind-one shown e (accepted es) = rw append-assoc
 behind-one shown e (refused n d) = refl
 
 -- after `count` parameters, from a sheet `z`
-pub record Shown (s : Octets) (from : ℕ) (z : List ℕ) (count at : ℕ) (sheet : List ℕ) : Type 0 where
+pub record Done (s : Octets) (from : ℕ) (z : List ℕ) (count at : ℕ) (sheet : List ℕ) : Type 0 where
   pub entries : List Entry
   pub many : length entries ≡ count
   pub holds : sheet ≡ tableWith entries z
   pub whole : parameters 64 s from (length s) ≡ (parameters (64 - count) s at (length s) >>= λ es. accepted (entries ++ es))
 
 module _ (s : Octets) (from : ℕ) (z : List ℕ) where
-  pub begins : Shown s from z 0 from z
+  pub begins : Done s from z 0 from z
   unfolding tableWith numbers
   begins = record { entries = []; many = refl; holds = refl; whole = behind-none (parameters 64 s from (length s)) }
 
-  module _ {count at : ℕ} {sheet : List ℕ} (w : Shown s from z count at sheet) where
+  module _ {count at : ℕ} {sheet : List ℕ} (w : Done s from z count at sheet) where
     none-left : length s ≤ at → (room : ℕ) → parameters room s at (length s) ≡ accepted []
     unfolding parameters
     none-left h zero = simp (le-leb (length s) at)
@@ -68,7 +68,7 @@ module _ (s : Octets) (from : ℕ) (z : List ℕ) where
         stops q = w .whole ∙ rw room (simp (lt-leb (length s) at, ← parameter-within s at short h, q))
 
         pub goes-on : {e : Entry} → parameterFrom s at ≡ accepted e → 4 * count + 4 ≤ length sheet → {after : List ℕ} →
-            after ≡ sets sheet (4 * count) (four e) → Shown s from z (count + 1) (next e) after
+            after ≡ sets sheet (4 * count) (four e) → Done s from z (count + 1) (next e) after
         unfolding parameters tableWith
         goes-on {e} q fit f =
             let n : 4 * count ≡ length (numbers (w .entries)) = omega (arith, numbers-length (w .entries), w .many) in

@@ -180,7 +180,7 @@ pub fn read_from(octets: &[u8], from: usize, specifier: u8, table: &mut [u16]) -
     }
 }
 
-// Reads a component.
+// Reads a component that is all of the octets.
 pub fn read(component: &[u8], specifier: u8, table: &mut [u16]) -> Reading
     ensures { λ r. ⌜ (answerIn r ≡ reader (now (component .entry)) specifier (now (table .entry)) .answer)
         × (now (table .exit) ≡ reader (now (component .entry)) specifier (now (table .entry)) .table) ⌝ }

@@ -8,13 +8,13 @@ use native.Mathlib.Omega.{arith}
 use borrow.Author.Needs.{needs}
 use Rattle.component.specs.Told.{entryIn}
 use Rattle.component.proofs.Laying.{parameter-placed}
-use Rattle.operation.proofs.Walking.{Shown, begins, ends, full, stops, goes-on}
+use Rattle.operation.proofs.Walking.{Done, begins, ends, full, stops, goes-on}
 use Rattle.operation.proofs.sheet.parameters_from.Statement.{statement}
 use Rattle.operation.proofs.sheet.parameters_from.Tie as tie
 
 abbrev Inv-parameters : tie.InvT-parameters
 Inv-parameters octets from sheet₀ at₀ count₀ sheet at count =
-    (at ≤ length octets) × (count ≤ 64) × (length sheet ≡ length sheet₀) × Shown octets from sheet₀ count at sheet
+    (at ≤ length octets) × (count ≤ 64) × (length sheet ≡ length sheet₀) × Done octets from sheet₀ count at sheet
 
 abbrev μ-parameters : tie.MeasureT-parameters
 μ-parameters octets from sheet₀ at₀ count₀ sheet at count = 64 - count
