@@ -1,16 +1,16 @@
 -- A component read behind other octets is the component read alone, with every place moved on by as many.
-use Prim.Native.Nat.{ℕ, _+_, _<_, _≤_}
+use Prim.Native.Nat.{ℕ, _+_}
 use mathlib.Core.Path.{_≡_, refl}
 use mathlib.Core.Bool.{Bool, true, false, not}
 use mathlib.Core.Logic.{⊎-elim}
 use mathlib.Core.List.{List, [], _∷_, _++_, map}
 use lib.ListN.{length}
 use lib.Dec.{eqb}
-use borrow.Author.Tests.{eqb-true, lt-ltb, le-leb}
+use borrow.Author.Tests.{eqb-true}
 use Rattle.element.specs.Octets.{Octets, if}
 use Rattle.element.specs.Answer.{Answer, accepted, refused}
 use Rattle.component.specs.Table.{Entry}
-use Rattle.component.specs.Layout.{Layout, layoutAt, layoutFrom, headAt}
+use Rattle.component.specs.Layout.{Layout}
 use Rattle.component.specs.Onward.{entryOn}
 use Rattle.component.proofs.Shift.{Detail, on, kept, On, both, stop, Any, By, equation, then, part, layout-on, specifier-on}
 use Rattle.operation.specs.Row.{Row, Item}
@@ -19,7 +19,7 @@ use Rattle.operation.specs.Finding.{rowOf}
 use Rattle.operation.specs.Items.{itemOf}
 use Rattle.operation.specs.Faults.{RowFault, again, missing}
 use Rattle.operation.specs.Faults as F
-use Rattle.operation.specs.Reading.{countOther, shownOf, readingFrom, readingAt, reading}
+use Rattle.operation.specs.Reading.{countOther, shownOf, readingFrom}
 use Rattle.operation.specs.Inside.{shownOn, Shifts}
 use Rattle.operation.proofs.Marks.{marked, count-marked}
 use Rattle.operation.proofs.RowFaults.{row-faulty}
@@ -79,8 +79,3 @@ module _ (pre c : Octets) where
 pub shift : Shifts
 unfolding Shifts
 shift pre c given = equation (shownOn (length pre)) (reading-on pre c given)
-
--- the lone reader starts at 0
-pub alone : (c : Octets) (given room : ℕ) → 256 ≤ room → 0 < length c → length c ≤ 4096 → reading c given room ≡ readingFrom c 0 given
-unfolding readingAt layoutAt headAt readingFrom layoutFrom
-alone c given room h k l = simp (le-leb 256 room h, lt-ltb 0 (length c) k, le-leb (length c) 4096 l) refl
