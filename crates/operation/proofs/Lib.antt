@@ -24,3 +24,4 @@ pub mod Model
 pub mod Truthful
 pub mod Charts
 pub mod Excluded
+pub mod Packing

@@ -14,6 +14,7 @@ pub mod Noting
 pub mod Reading
 pub mod Writing
 pub mod Told
+pub mod Packed
 pub mod Finishing
 pub mod Model
 pub mod Charts

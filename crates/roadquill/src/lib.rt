@@ -9,7 +9,8 @@ ghost use Rattle.component.specs.Composing.{outputAfter, written};
 ghost use Rattle.operation.specs.Reading.{reading, tableAfter};
 ghost use Rattle.operation.specs.Told.{told};
 ghost use Rattle.operation.specs.Writing.{writing};
-ghost use Rattle.roadquill.specs.Packed.{octets, numberWith, idFrom, packedReading, packedWriting};
+ghost use Rattle.operation.specs.Packed.{octets, numberWith, packedReading, packedWriting};
+ghost use Rattle.roadquill.specs.Id.{idFrom};
 
 // An answer's number in octet 0, and what goes with it in octets 1 to 4.
 fn packed(number: u8, detail: u32) -> u64
