@@ -9,6 +9,7 @@ pub mod Composes
 pub mod Complete
 pub mod Deciding
 pub mod OneFault
+pub mod Details
 pub mod Decoding
 pub mod Putting
 pub mod Composition

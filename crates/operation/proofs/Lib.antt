@@ -26,3 +26,4 @@ pub mod Truthful
 pub mod Charts
 pub mod Excluded
 pub mod Shift
+pub mod Packing

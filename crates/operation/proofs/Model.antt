@@ -213,7 +213,7 @@ reads-then-writes s given t out o e h =
     let (p, q) = reader-accepts s o given t r in
     handed-back s given t out r h (inner (sym p ∙ e)) q
 
-counted : (i n : ℕ) (t : List ℕ) (s : Octets) → length (parametersFrom i n t s) ≡ n
+pub counted : (i n : ℕ) (t : List ℕ) (s : Octets) → length (parametersFrom i n t s) ≡ n
 unfolding parametersFrom
 counted i zero t s = refl
 counted i (suc n) t s = ap suc (counted (i + 1) n t s)

@@ -339,7 +339,7 @@ module _ (row : Row) (xs : List Item) where
       go (inr f) = let g = row-accepts f in let z : _≡_ {A = ℕ} 0 1 = cc in absurd (omega arith)
 
 -- what a fault points to that is no missing line
-last-in : {P : Item → Type 0} {xs : List Item} {x : Item} → Last P xs x → List·Memᴰ x xs
+pub last-in : {P : Item → Type 0} {xs : List Item} {x : Item} → Last P xs x → List·Memᴰ x xs
 last-in (Last.here h e) = List·Memᴰ·head refl
 last-in (Last.later f) = List·Memᴰ·tail (last-in f)
 

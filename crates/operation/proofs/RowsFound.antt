@@ -27,7 +27,7 @@ all-distinct : distinct operations ≡ true
 unfolding distinct fresh operations
 all-distinct = refl
 
-both : (a b : Bool) → (a && b) ≡ true → (a ≡ true) × (b ≡ true)
+pub both : (a b : Bool) → (a && b) ≡ true → (a ≡ true) × (b ≡ true)
 both true b e = (refl, e)
 both false b e = absurd (true≢false (sym e))
 

@@ -18,4 +18,5 @@ pub mod Told
 pub mod Sheet
 pub mod Finishing
 pub mod Model
+pub mod Packed
 pub mod Charts

@@ -4,10 +4,10 @@ use operation::Reading;
 use operation::Writing;
 ghost use mathlib.Core.Path.{_≡_};
 ghost use mathlib.Core.List.{[], _∷_};
-ghost use lib.ListN.{length};
 ghost use Rattle.operation.specs.Caller.{order};
 ghost use Rattle.operation.specs.Model.{reader, writer};
-ghost use Rattle.roadquill.specs.Packed.{octets, numberWith, idFrom, packedReading, packedWriting};
+ghost use Rattle.operation.specs.Packed.{octets, numberWith, packedReading, packedWriting};
+ghost use Rattle.roadquill.specs.Id.{idFrom};
 
 // An answer's number in octet 0, and what goes with it in octets 1 to 4.
 fn packed(number: u8, detail: u32) -> u64

@@ -6,7 +6,7 @@ use lib.ListN.{length}
 use native.Mathlib.Omega.{arith}
 use Rattle.operation.specs.Told.{answerIn}
 use Rattle.operation.proofs.Counts as counts
-use Rattle.roadquill.specs.Packed.{packedReading}
+use Rattle.operation.specs.Packed.{packedReading}
 use Rattle.roadquill.proofs.roadquill_read.Statement.{statement}
 use Rattle.roadquill.proofs.roadquill_read.Tie as tie
 

@@ -6,7 +6,8 @@ use lib.ListN.{length}
 use native.Mathlib.Omega.{arith}
 use Rattle.operation.specs.Told.{writtenIn}
 use Rattle.operation.proofs.Counts as counts
-use Rattle.roadquill.specs.Packed.{idFrom, packedWriting}
+use Rattle.operation.specs.Packed.{packedWriting}
+use Rattle.roadquill.specs.Id.{idFrom}
 use Rattle.roadquill.proofs.roadquill_write.Statement.{statement}
 use Rattle.roadquill.proofs.roadquill_write.Tie as tie
 

@@ -2,7 +2,7 @@
 -- Assumes nothing.
 use borrow.Author.Needs.{needs}
 use native.Mathlib.Omega.{arith}
-use Rattle.roadquill.specs.Packed.{octets}
+use Rattle.operation.specs.Packed.{octets}
 use Rattle.roadquill.proofs.shown.Statement.{statement}
 use Rattle.roadquill.proofs.shown.Tie as tie
 
