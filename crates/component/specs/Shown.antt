@@ -1,4 +1,5 @@
--- How a layout shows a component: type, ID octets, specifier, and each parameter by an entry, one of no octets included.
+-- How a layout shows a component: type, ID octets, specifier, and each parameter by an entry, one of no octets
+-- included.
 use Prim.Native.Nat.{ℕ, _+_, _≤_}
 use mathlib.Core.Path.{_≡_}
 use mathlib.Core.List.{List, [], _∷_}
