@@ -1,15 +1,15 @@
 -- The laws of a field written into a lent output: where there is room it stands there and nothing else changes, else nothing does.
-use Prim.Native.Nat.{ℕ, _+_, _<_, _≤_}
+use Prim.Native.Nat.{ℕ, _+_, _%_, _<_, _≤_}
 use mathlib.Core.Path.{_≡_, sym, _∙_}
-use mathlib.Core.List.{[], _++_, append-assoc, append-nil}
+use mathlib.Core.List.{[], _∷_, _++_, append-assoc, append-nil}
 use lib.ListN.{length, take, drop, length-append, length-take, length-drop, take-append-drop}
 use lib.Seq.{take-append-seam, drop-append-add, drop-drop, length-take-le, sets, sets-eq}
 use borrow.Author.Tests.{le-leb, lt-leb}
 use native.Mathlib.Nat.{add-zero}
 use native.Mathlib.Omega.{arith}
-use Rattle.element.specs.declared.Written.the-variants as WV
-use Rattle.element.specs.Octets.{Octets}
-use Rattle.element.specs.Field.{put, written, outputAfter}
+use Rattle.element.specs.Octets.{Octets, AreOctets}
+use Rattle.element.specs.Field.{put, outputAfter}
+use Rattle.element.specs.Encoded.{fieldOf, octetsIn}
 
 pub put-next : (done field out : Octets) →
     put field (length done) (done ++ drop (length done) out) ≡ (done ++ field) ++ drop (length (done ++ field)) out
@@ -37,10 +37,26 @@ module _ (field : Octets) (at : ℕ) (out : Octets) where
   unfolding put
   put-length h = simp (length-append, length-take, length-drop) (omega arith)
 
-  pub roomy : at + length field ≤ length out → (written field at out ≡ WV.Size (length field)) × (outputAfter field at out ≡ put field at out)
-  unfolding written outputAfter
-  roomy h = let e = le-leb (at + length field) (length out) h in (simp e, simp e)
+  pub roomy : at + length field ≤ length out → outputAfter field at out ≡ put field at out
+  unfolding outputAfter
+  roomy h = simp (le-leb (at + length field) (length out) h)
 
-  pub cramped : length out < at + length field → (written field at out ≡ WV.NoRoom) × (outputAfter field at out ≡ out)
-  unfolding written outputAfter
-  cramped h = let e = lt-leb (at + length field) (length out) h in (simp e, simp e)
+  pub cramped : length out < at + length field → outputAfter field at out ≡ out
+  unfolding outputAfter
+  cramped h = simp (lt-leb (at + length field) (length out) h)
+
+-- a field of one to three octets is what its value holds
+pub held : (s : Octets) → AreOctets s → (1 ≤ length s) × (length s ≤ 3) → octetsIn (fieldOf s) ≡ s
+unfolding octetsIn fieldOf
+held [] o h = absurd (omega arith)
+held (a ∷ []) o h = let e : a % 256 ≡ a = omega (arith, o 0) in rw e
+held (a ∷ b ∷ []) o h =
+    let e : a % 256 ≡ a = omega (arith, o 0) in
+    let f : b % 256 ≡ b = omega (arith, o 1) in
+    rw (e, f)
+held (a ∷ b ∷ c ∷ []) o h =
+    let e : a % 256 ≡ a = omega (arith, o 0) in
+    let f : b % 256 ≡ b = omega (arith, o 1) in
+    let g : c % 256 ≡ c = omega (arith, o 2) in
+    rw (e, f, g)
+held (a ∷ b ∷ c ∷ d ∷ s) o h = absurd (omega arith)
