@@ -204,7 +204,8 @@ fn put_identifier(out: &mut [u8], at: usize, number: u16, form: u16) -> usize
     put_field(out, at, element::identifier_field(number, form))
 }
 
-fn copy_octets(source: &[u8], start: usize, size: usize, out: &mut [u8], at: usize) -> usize
+// Octets one by one.
+fn copy_each(source: &[u8], start: usize, size: usize, out: &mut [u8], at: usize) -> usize
     requires { ⌜ (start + size ≤ length (now source)) × (at + size ≤ length (now out)) ⌝ }
     ensures { λ r. ⌜ Put (take size (drop start (now (source .entry)))) at (now (out .entry)) r (now (out .exit)) ⌝ }
 {
@@ -214,6 +215,66 @@ fn copy_octets(source: &[u8], start: usize, size: usize, out: &mut [u8], at: usi
         i = i + 1;
     }
     at + size
+}
+
+// At most 16 octets as a block: where the compiler knows how many, they are loaded and stored at once.
+fn copy_block(source: &[u8], start: usize, size: usize, out: &mut [u8], at: usize) -> usize
+    requires { ⌜ (start + size ≤ length (now source)) × (at + size ≤ length (now out)) × (size ≤ 16) ⌝ }
+    ensures { λ r. ⌜ Put (take size (drop start (now (source .entry)))) at (now (out .entry)) r (now (out .exit)) ⌝ }
+{
+    let mut block = [0u8; 16];
+    copy_each(source, start, size, &mut block, 0);
+    copy_each(&block, 0, size, out, at)
+}
+
+// The first `width` octets and the last `width`, of which some may be in both.
+fn copy_ends(
+    source: &[u8],
+    start: usize,
+    size: usize,
+    out: &mut [u8],
+    at: usize,
+    width: usize,
+) -> usize
+    requires { ⌜ (start + size ≤ length (now source)) × (at + size ≤ length (now out))
+        × (width ≤ 16) × (width ≤ size) × (size ≤ 2 * width) ⌝ }
+    ensures { λ r. ⌜ Put (take size (drop start (now (source .entry)))) at (now (out .entry)) r (now (out .exit)) ⌝ }
+{
+    let last = size - width;
+    copy_block(source, start, width, out, at);
+    copy_block(source, start + last, width, out, at + last)
+}
+
+// Blocks of 16 octets.
+fn copy_blocks(source: &[u8], start: usize, size: usize, out: &mut [u8], at: usize) -> usize
+    requires { ⌜ (start + size ≤ length (now source)) × (at + size ≤ length (now out)) × (16 ≤ size) ⌝ }
+    ensures { λ r. ⌜ Put (take size (drop start (now (source .entry)))) at (now (out .entry)) r (now (out .exit)) ⌝ }
+{
+    let mut i: usize = 0;
+    'blocks: while 32 < size - i {
+        copy_block(source, start + i, 16, out, at + i);
+        i = i + 16;
+    }
+    copy_ends(source, start + i, size - i, out, at + i, 16)
+}
+
+fn copy_octets(source: &[u8], start: usize, size: usize, out: &mut [u8], at: usize) -> usize
+    requires { ⌜ (start + size ≤ length (now source)) × (at + size ≤ length (now out)) ⌝ }
+    ensures { λ r. ⌜ Put (take size (drop start (now (source .entry)))) at (now (out .entry)) r (now (out .exit)) ⌝ }
+{
+    if size < 2 {
+        return copy_each(source, start, size, out, at);
+    }
+    if size < 4 {
+        return copy_ends(source, start, size, out, at, 2);
+    }
+    if size < 8 {
+        return copy_ends(source, start, size, out, at, 4);
+    }
+    if size < 16 {
+        return copy_ends(source, start, size, out, at, 8);
+    }
+    copy_blocks(source, start, size, out, at)
 }
 
 // CF, and the octets of the component ID.

@@ -1,9 +1,9 @@
 -- The laws of a field written into a lent output: where there is room it stands there and nothing else changes, else nothing does.
-use Prim.Native.Nat.{ℕ, _+_, _%_, _<_, _≤_}
-use mathlib.Core.Path.{_≡_, sym, _∙_}
+use Prim.Native.Nat.{ℕ, _+_, _-_, _%_, _<_, _≤_}
+use mathlib.Core.Path.{_≡_, refl, sym, ap, _∙_}
 use mathlib.Core.List.{[], _∷_, _++_, append-assoc, append-nil}
 use lib.ListN.{length, take, drop, length-append, length-take, length-drop, take-append-drop}
-use lib.Seq.{take-append-seam, drop-append-add, drop-drop, length-take-le, sets, sets-eq}
+use lib.Seq.{take-append-seam, take-at, drop-append-add, drop-drop, length-take-le, sets, sets-eq}
 use borrow.Author.Tests.{le-leb, lt-leb}
 use native.Mathlib.Nat.{add-zero}
 use native.Mathlib.Omega.{arith}
@@ -23,6 +23,20 @@ put-put f g at out h =
     let done = take at out ++ f in
     let e : at + length f ≡ length done = sym (simp (length-append, length-take-le at out h)) in
     rw e (put-next done g out ∙ simp (append-assoc, length-append, length-take-le at out h))
+
+-- what is put over a field that is no longer stands as if there had been no field
+pub put-again : (g h : Octets) (at : ℕ) (out : Octets) → at ≤ length out → length h ≤ length g → put g at (put h at out) ≡ put g at out
+unfolding put
+put-again g h at out k l =
+    let mid = take at out ++ h in
+    let rest = drop (at + length h) out in
+    let n = length g - length h in
+    let e : at + length g ≡ length mid + n = simp (length-append, length-take-le at out k) (omega arith) in
+    let f : at + length h + n ≡ at + length g = omega arith in
+    let before : take at (mid ++ rest) ≡ take at out = rw append-assoc (take-at (take at out) (h ++ rest) at (length-take-le at out k)) in
+    let behind : drop (at + length g) (mid ++ rest) ≡ drop (at + length g) out =
+    ap (λ j. drop j (mid ++ rest)) e ∙ drop-append-add mid rest n ∙ drop-drop n (at + length h) out ∙ ap (λ j. drop j out) f in
+    rw (before, behind) refl
 
 pub put-none : (at : ℕ) (out : Octets) → put [] at out ≡ out
 unfolding put
