@@ -1,19 +1,17 @@
 -- The laws of octets put down one behind another: two fields are one, and what is written, stored or copied is put.
-use Prim.Native.Nat.{ℕ, _+_, _<_, _≤_}
+use Prim.Native.Nat.{ℕ, _+_, _-_, _<_, _≤_}
 use mathlib.Core.Path.{_≡_, refl, sym, ap, _∙_}
 use mathlib.Core.List.{[], _++_}
 use lib.ListN.{length, take, drop, set, getD, length-append, length-drop}
-use lib.Seq.{length-take-le, sets, getD-drop, paste, paste-zero, paste-suc}
-use borrow.Author.Tests.{le-leb}
+use lib.Seq.{take-append-seam, take-add, drop-drop, length-take-le, sets, getD-drop, paste, paste-zero, paste-suc}
 use native.Mathlib.Omega.{arith}
 use native.Mathlib.Numerals.{add-one}
-use Rattle.element.specs.declared.Written as W
-use Rattle.element.specs.Octets.{Octets}
-use Rattle.element.specs.Field.{put, written, outputAfter}
-use Rattle.element.specs.Identifier.{identifier}
-use Rattle.element.specs.Encoded.{identifierWritten, identifierAfter}
-use Rattle.element.proofs.FieldLaws.{put-put, put-none, put-stores, roomy}
-use Rattle.component.specs.Emitting.{Put, sizeIn}
+use Rattle.element.specs.declared.Field as F
+use Rattle.element.specs.Octets.{Octets, AreOctets}
+use Rattle.element.specs.Field.{put}
+use Rattle.element.specs.Encoded.{fieldOf, octetsIn}
+use Rattle.element.proofs.FieldLaws.{put-put, put-again, put-none, put-stores, put-length, held}
+use Rattle.component.specs.Emitting.{Put}
 
 pub part-length : (s : Octets) (start size : ℕ) → start + size ≤ length s → length (take size (drop start s)) ≡ size
 part-length s start size h = length-take-le size (drop start s) (simp length-drop (omega arith))
@@ -51,20 +49,15 @@ goes-on f g {next = next} {mid = mid} l p h =
       octets = rw (p .place, p .octets) (put-put f g next mid h) ∙ l .octets;
     }
 
--- a field that is written where there is room is put
-pub lands : (field : Octets) (at : ℕ) (out : Octets) → at + length field ≤ length out → {w : W.Written} {after : Octets} →
-    (w ≡ written field at out) × (after ≡ outputAfter field at out) → (sizeIn w ≡ length field) × (after ≡ put field at out)
-lands field at out h p = let (r, s) = roomy field at out h in (ap sizeIn (p .0 ∙ r), p .1 ∙ s)
+-- a field of one to three octets by value
+pub by-value : (s : Octets) → AreOctets s → (1 ≤ length s) × (length s ≤ 3) → {field : F.Field} → field ≡ fieldOf s →
+    {at next : ℕ} {out after : Octets} → Put (octetsIn field) at out next after → Put s at out next after
+by-value s o h e p = rw (e, held s o h) at p
 
-pub landed : (field : Octets) (at : ℕ) (out : Octets) → at + length field ≤ length out → {w : W.Written} {after : Octets} →
-    (w ≡ written field at out) × (after ≡ outputAfter field at out) → {next : ℕ} → next ≡ at + sizeIn w → Put field at out next after
-landed field at out h p e = let (r, s) = lands field at out h p in record { place = omega arith; octets = s }
-
-pub has-form : (number form at : ℕ) (out : Octets) → number ≤ 16383 → form ≤ 1 → {w : W.Written} {after : Octets} →
-    (w ≡ identifierWritten number form at out) × (after ≡ identifierAfter number form at out) →
-    (w ≡ written (identifier number form) at out) × (after ≡ outputAfter (identifier number form) at out)
-unfolding identifierWritten identifierAfter
-has-form number form at out h k p = simp (le-leb number 16383 h, le-leb form 1 k) at p
+pub value-room : (s : Octets) {field : F.Field} → (1 ≤ length s) × (length s ≤ 3) → field ≡ fieldOf s → (at : ℕ) {room : ℕ} → at + length s ≤ room →
+    (1 ≤ field .size) × (field .size ≤ 3) × (at + field .size ≤ room)
+unfolding fieldOf
+value-room s h e at k = rw e (h .0, h .1, k)
 
 -- octets copied one by one: `i` of them so far
 unfoldable pub copied : (s : Octets) (start at : ℕ) (out : Octets) (i : ℕ) → Octets
@@ -84,3 +77,39 @@ module _ (s : Octets) (start at : ℕ) (out : Octets) where
       Put (take size (drop start s)) at out (at + size) after
   unfolding put copied
   all-copied size h e = let l = part-length s start size h in record { place = omega arith; octets = e ∙ simp l }
+
+-- octets copied part by part: `i` of them, then `n` of `size`
+module _ (s : Octets) (start : ℕ) {at : ℕ} {out : Octets} where
+  pub so-far : (i : ℕ) → start + i ≤ length s → {mid : Octets} → mid ≡ put (take i (drop start s)) at out → Put (take i (drop start s)) at out (at + i) mid
+  so-far i h e = record { place = ap (λ n. at + n) (sym (part-length s start i h)); octets = e }
+
+  pub further : (i n size : ℕ) → size ≡ i + n → {next last : ℕ} {mid after : Octets} → Put (take i (drop start s)) at out next mid →
+      Put (take n (drop (start + i) s)) next mid last after → at ≤ length out → Put (take size (drop start s)) at out last after
+  further i n size e p q h = rw (e, take-add i n (drop start s), drop-drop i start s) (then p q h)
+
+  -- the first `n` of them and the last `n`, of which some may be in both
+  pub both-ends : (i n size : ℕ) → size ≡ i + n → i ≤ n → start + size ≤ length s → at + size ≤ length out → {next last : ℕ} {mid after : Octets} →
+      Put (take n (drop start s)) at out next mid → Put (take n (drop (start + i) s)) (at + i) mid last after →
+      Put (take size (drop start s)) at out last after
+  both-ends i n size e h k l {mid = mid} p q =
+      let first = take i (drop start s) in
+      let twice = take (n - i) (drop (start + i) s) in
+      let there = put first at out in
+      let c = part-length s start i (omega arith) in
+      let f : n ≡ i + (n - i) = omega arith in
+      let split : take n (drop start s) ≡ first ++ twice =
+      ap (λ m. take m (drop start s)) f ∙ take-add i (n - i) (drop start s) ∙ rw (drop-drop i start s) refl in
+      let g : mid ≡ put twice (at + i) there =
+      p .octets ∙ ap (λ x. put x at out) split ∙ sym (put-put first twice at out (omega arith)) ∙ ap (λ m. put twice (at + m) there) c in
+      let long = part-length s (start + i) n (omega arith) in
+      let short = part-length s (start + i) (n - i) (omega arith) in
+      let room = put-length first at out (omega arith) in
+      further i n size e (so-far i (omega arith) refl)
+      (record { place = q .place; octets = q .octets ∙ ap (put _ (at + i)) g ∙ put-again _ twice (at + i) there (omega arith) (omega arith) })
+      (omega arith)
+
+-- by way of a block
+pub through : (f zeros : Octets) {size : ℕ} → length f ≡ size → size ≤ length zeros → {n at next : ℕ} {block out after : Octets} → Put f 0 zeros n block →
+    Put (take size (drop 0 block)) at out next after → Put f at out next after
+unfolding put
+through f zeros e h p q = rw (p .octets, ← e, take-append-seam f (drop (0 + length f) zeros)) at q

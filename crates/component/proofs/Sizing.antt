@@ -4,10 +4,11 @@ use mathlib.Core.Path.{_≡_, refl}
 use mathlib.Core.Bool.{false}
 use mathlib.Core.List.{List}
 use lib.ListN.{getD}
-use borrow.Author.Tests.{le-leb, lt-leb, eq-eqb, ne-eqb}
+use borrow.Author.Tests.{lt-ltb, le-leb, lt-leb, eq-eqb, ne-eqb}
 use native.Mathlib.Omega.{arith}
 use Rattle.element.specs.Octets.{Octets}
 use Rattle.element.specs.Length.{fieldSize}
+use Rattle.element.specs.Identifier.{identifierSize}
 use Rattle.component.specs.Part.{fits}
 use Rattle.component.specs.Needed.{elementSize, bodySize}
 use Rattle.component.specs.Composing.{entryStands}
@@ -15,6 +16,10 @@ use Rattle.component.specs.Composing.{entryStands}
 pub element-size : (head body : ℕ) → head + fieldSize body + body ≡ elementSize head body
 unfolding elementSize
 element-size head body = refl
+
+pub brief : (number size : ℕ) → number < 31 → size < 128 → 2 + size ≡ elementSize (identifierSize number) size
+unfolding elementSize identifierSize fieldSize
+brief number size h k = simp (lt-ltb number 31, lt-ltb size 128)
 
 module _ (kind id set : ℕ) where
   pub with-operation : kind ≡ 0xE9 → elementSize 1 id + elementSize 1 set + 4 ≡ bodySize kind id set

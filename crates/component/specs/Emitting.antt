@@ -5,8 +5,6 @@ use mathlib.Core.Bool.{true}
 use mathlib.Core.List.{List, [], _∷_, _++_}
 use lib.ListN.{length}
 use lib.Dec.{leb, eqb}
-use Rattle.element.specs.declared.Written as W
-use Rattle.element.specs.declared.Written.the-variants as WV
 use Rattle.element.specs.Octets.{Octets, if}
 use Rattle.element.specs.Answer.{Answer, accepted, _>>=_, _>>_, check}
 use Rattle.element.specs.Field.{put}
@@ -24,11 +22,6 @@ use Rattle.component.specs.Needed.{elementSize, setSize, bodySize}
 pub record Put (field : Octets) (at : ℕ) (out : Octets) (next : ℕ) (after : Octets) : Type 0 where
   pub place : next ≡ at + length field
   pub octets : after ≡ put field at out
-
-abbrev pub sizeIn : W.Written → ℕ
-sizeIn (WV.Size n) = n
-sizeIn WV.NoRoom = 0
-sizeIn WV.NoForm = 0
 
 unfoldable pub operationOctets : (kind specifier : ℕ) → Octets
 operationOctets kind specifier = if (eqb kind 0xE9) (0xD1 ∷ 2 ∷ 9 ∷ specifier ∷ []) []

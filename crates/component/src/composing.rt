@@ -3,20 +3,20 @@ use super::Count;
 use super::Id;
 use super::Measured;
 use super::part_fits;
-use element::Written;
+use element::Field;
 ghost use mathlib.Core.Path.{_≡_};
 ghost use mathlib.Core.List.{[], _∷_};
 ghost use Prim.Native.Nat.{_+_, _*_, _≤_, _<_};
 ghost use lib.ListN.{length, take, drop};
 ghost use Rattle.element.specs.Length.{shortest};
-ghost use Rattle.element.specs.Identifier.{identifier};
+ghost use Rattle.element.specs.Identifier.{identifier, identifierSize};
+ghost use Rattle.element.specs.Encoded.{octetsIn};
 ghost use Rattle.component.specs.Composed.{element, setOf};
 ghost use Rattle.component.specs.Needed.{elementSize, bodySize};
 ghost use Rattle.component.specs.Composing.{idFits, entryStands, entriesFrom, measured, composing, written, outputAfter};
 ghost use Rattle.component.specs.Table.{idOctets, parametersFrom};
 ghost use Rattle.component.specs.Emitting.{
   Put,
-  sizeIn,
   operationOctets,
   headOctets,
   AllStand,
@@ -134,6 +134,18 @@ fn entry_stands(i: usize, table: &[u16], source: &[u8]) -> bool
     part_fits(source, wide(table[4 * i + 2]), wide(table[4 * i + 3]))
 }
 
+// A parameter: most have one octet of identifier and one of length, so that is asked first.
+fn parameter_size(number: u16, size: u16) -> usize
+    ensures { λ r. ⌜ (r ≡ elementSize (identifierSize number) size) × (r ≤ 65542) ⌝ }
+{
+    if number < 31 {
+        if size < 128 {
+            return 2 + wide(size);
+        }
+    }
+    element_size(element::identifier_size(number), wide(size))
+}
+
 // The parameters: 16 at the first entry that does not stand.
 fn set_size(count: usize, table: &[u16], source: &[u8]) -> Count
     requires { ⌜ (count ≤ 64) × (4 * count ≤ length (now table)) ⌝ }
@@ -147,8 +159,7 @@ fn set_size(count: usize, table: &[u16], source: &[u8]) -> Count
             break 'entries Count::Of(sum);
         }
         if entry_stands(i, table, source) {
-            let head = element::identifier_size(table[4 * i]);
-            sum = sum + element_size(head, wide(table[4 * i + 3]));
+            sum = sum + parameter_size(table[4 * i], table[4 * i + 3]);
             i = i + 1;
         } else {
             break 'entries Count::Refused {
@@ -162,33 +173,39 @@ fn set_size(count: usize, table: &[u16], source: &[u8]) -> Count
 
 // ---- the octets, each at a place of the output: the answer is the place behind them
 
-// The place behind a field that was written.
-fn past(field: Written, at: usize) -> usize
-    requires { ⌜ at + sizeIn field < 18446744073709551616 ⌝ }
-    ensures { λ r. ⌜ r ≡ at + sizeIn field ⌝ }
+fn put_field(out: &mut [u8], at: usize, field: Field) -> usize
+    requires { ⌜ (1 ≤ field .size) × (field .size ≤ 3) × (at + field .size ≤ length (now out)) ⌝ }
+    ensures { λ r. ⌜ Put (octetsIn field) at (now (out .entry)) r (now (out .exit)) ⌝ }
 {
-    match field {
-        Written::Size(size) => at + size,
-        Written::NoRoom => at,
-        Written::NoForm => at,
+    let size = field.size;
+    out[at] = field.first;
+    if size == 1 {
+        return at + 1;
     }
+    out[at + 1] = field.second;
+    if size == 2 {
+        return at + 2;
+    }
+    out[at + 2] = field.third;
+    at + 3
 }
 
 fn put_length(out: &mut [u8], at: usize, value: usize) -> usize
     requires { ⌜ (value < 65536) × (at + length (shortest value) ≤ length (now out)) ⌝ }
     ensures { λ r. ⌜ Put (shortest value) at (now (out .entry)) r (now (out .exit)) ⌝ }
 {
-    past(element::write_length(value as u16, out, at), at)
+    put_field(out, at, element::length_field(value as u16))
 }
 
 fn put_identifier(out: &mut [u8], at: usize, number: u16, form: u16) -> usize
     requires { ⌜ (number ≤ 16383) × (form ≤ 1) × (at + length (identifier number form) ≤ length (now out)) ⌝ }
     ensures { λ r. ⌜ Put (identifier number form) at (now (out .entry)) r (now (out .exit)) ⌝ }
 {
-    past(element::write_identifier(number, form, out, at), at)
+    put_field(out, at, element::identifier_field(number, form))
 }
 
-fn copy_octets(source: &[u8], start: usize, size: usize, out: &mut [u8], at: usize) -> usize
+// Octets one by one.
+fn copy_each(source: &[u8], start: usize, size: usize, out: &mut [u8], at: usize) -> usize
     requires { ⌜ (start + size ≤ length (now source)) × (at + size ≤ length (now out)) ⌝ }
     ensures { λ r. ⌜ Put (take size (drop start (now (source .entry)))) at (now (out .entry)) r (now (out .exit)) ⌝ }
 {
@@ -198,6 +215,66 @@ fn copy_octets(source: &[u8], start: usize, size: usize, out: &mut [u8], at: usi
         i = i + 1;
     }
     at + size
+}
+
+// At most 16 octets as a block: where the compiler knows how many, they are loaded and stored at once.
+fn copy_block(source: &[u8], start: usize, size: usize, out: &mut [u8], at: usize) -> usize
+    requires { ⌜ (start + size ≤ length (now source)) × (at + size ≤ length (now out)) × (size ≤ 16) ⌝ }
+    ensures { λ r. ⌜ Put (take size (drop start (now (source .entry)))) at (now (out .entry)) r (now (out .exit)) ⌝ }
+{
+    let mut block = [0u8; 16];
+    copy_each(source, start, size, &mut block, 0);
+    copy_each(&block, 0, size, out, at)
+}
+
+// The first `width` octets and the last `width`, of which some may be in both.
+fn copy_ends(
+    source: &[u8],
+    start: usize,
+    size: usize,
+    out: &mut [u8],
+    at: usize,
+    width: usize,
+) -> usize
+    requires { ⌜ (start + size ≤ length (now source)) × (at + size ≤ length (now out))
+        × (width ≤ 16) × (width ≤ size) × (size ≤ 2 * width) ⌝ }
+    ensures { λ r. ⌜ Put (take size (drop start (now (source .entry)))) at (now (out .entry)) r (now (out .exit)) ⌝ }
+{
+    let last = size - width;
+    copy_block(source, start, width, out, at);
+    copy_block(source, start + last, width, out, at + last)
+}
+
+// Blocks of 16 octets.
+fn copy_blocks(source: &[u8], start: usize, size: usize, out: &mut [u8], at: usize) -> usize
+    requires { ⌜ (start + size ≤ length (now source)) × (at + size ≤ length (now out)) × (16 ≤ size) ⌝ }
+    ensures { λ r. ⌜ Put (take size (drop start (now (source .entry)))) at (now (out .entry)) r (now (out .exit)) ⌝ }
+{
+    let mut i: usize = 0;
+    'blocks: while 32 < size - i {
+        copy_block(source, start + i, 16, out, at + i);
+        i = i + 16;
+    }
+    copy_ends(source, start + i, size - i, out, at + i, 16)
+}
+
+fn copy_octets(source: &[u8], start: usize, size: usize, out: &mut [u8], at: usize) -> usize
+    requires { ⌜ (start + size ≤ length (now source)) × (at + size ≤ length (now out)) ⌝ }
+    ensures { λ r. ⌜ Put (take size (drop start (now (source .entry)))) at (now (out .entry)) r (now (out .exit)) ⌝ }
+{
+    if size < 2 {
+        return copy_each(source, start, size, out, at);
+    }
+    if size < 4 {
+        return copy_ends(source, start, size, out, at, 2);
+    }
+    if size < 8 {
+        return copy_ends(source, start, size, out, at, 4);
+    }
+    if size < 16 {
+        return copy_ends(source, start, size, out, at, 8);
+    }
+    copy_blocks(source, start, size, out, at)
 }
 
 // CF, and the octets of the component ID.

@@ -1,21 +1,18 @@
 -- Each way out of a definition that goes by tests, as one law: what the tests on the way say, and the outcome.
 -- Assumes nothing.
 use Prim.Native.Nat.{ℕ, _+_, _*_, _/_, _%_, _<_, _≤_}
-use mathlib.Core.Path.{_≡_, ap}
-use mathlib.Core.List.{[], _∷_}
+use mathlib.Core.Path.{_≡_}
 use lib.ListN.{length, getD}
 use borrow.Author.Tests.{le-leb, lt-leb, le-ltb, lt-ltb, ne-eqb}
 use native.Mathlib.Omega.{arith}
 use Rattle.element.specs.declared.Length.the-variants as LV
 use Rattle.element.specs.declared.Identifier.the-variants as IV
-use Rattle.element.specs.declared.Written as W
-use Rattle.element.specs.declared.Written.the-variants as WV
+use Rattle.element.specs.declared.Field as F
 use Rattle.element.specs.Octets.{Octets}
-use Rattle.element.specs.Field.{written, outputAfter}
 use Rattle.element.specs.Length.{shortest}
 use Rattle.element.specs.Decoded.{lengthAt, within, numbered, identifierAt}
 use Rattle.element.specs.Identifier.{identifier}
-use Rattle.element.specs.Encoded.{identifierWritten, identifierAfter}
+use Rattle.element.specs.Encoded.{fieldOf}
 
 -- ---- the length field
 
@@ -61,37 +58,28 @@ module _ (s : Octets) where
         unfolding lengthAt
         three-octets d g h = simp (lt-leb (length s) 0, ← e, is-82, lt-leb (length s) 2, ← f, le-ltb b 1, ← g)
 
+-- a field as a value, by its size
+abbrev value : (size first second third : ℕ) → F.Field
+value size first second third = record { size = size; first = first; second = second; third = third }
+
 module _ (n : ℕ) where
-  pub says-1 : n < 128 → shortest n ≡ (n % 256) ∷ []
-  unfolding shortest
-  says-1 h = simp (lt-ltb n 128) (ap (λ k. k ∷ []) (omega arith))
+  pub says-1 : n < 128 → value 1 (n % 256) 0 0 ≡ fieldOf (shortest n)
+  unfolding shortest fieldOf
+  says-1 h = simp (lt-ltb n 128)
 
   module _ (h : 128 ≤ n) where
-    pub says-2 : n < 256 → shortest n ≡ 129 ∷ (n % 256) ∷ []
-    unfolding shortest
-    says-2 k = simp (le-ltb n 128, lt-ltb n 256) (ap (λ k. 129 ∷ k ∷ []) (omega arith))
+    pub says-2 : n < 256 → value 2 129 (n % 256) 0 ≡ fieldOf (shortest n)
+    unfolding shortest fieldOf
+    says-2 k = simp (le-ltb n 128, lt-ltb n 256)
 
-    pub says-3 : 256 ≤ n → shortest n ≡ 130 ∷ (n / 256) ∷ (n % 256) ∷ []
-    unfolding shortest
-    says-3 k = simp (le-ltb n 128, le-ltb n 256)
+    pub says-3 : 256 ≤ n → n < 65536 → value 3 130 (n / 256) (n % 256) ≡ fieldOf (shortest n)
+    unfolding shortest fieldOf
+    says-3 k l =
+        let e : n / 256 % 256 ≡ n / 256 = omega arith in
+        let f : n % 256 % 256 ≡ n % 256 = omega arith in
+        simp (le-ltb n 128, le-ltb n 256, e, f)
 
 -- ---- the identifier
-
-module _ (number form at : ℕ) (out : Octets) where
-  pub no-number : 16383 < number → (WV.NoForm ≡ identifierWritten number form at out) × (out ≡ identifierAfter number form at out)
-  unfolding identifierWritten identifierAfter
-  no-number h = (simp (lt-leb number 16383), simp (lt-leb number 16383))
-
-  module _ (h : number ≤ 16383) where
-    pub no-form : 1 < form → (WV.NoForm ≡ identifierWritten number form at out) × (out ≡ identifierAfter number form at out)
-    unfolding identifierWritten identifierAfter
-    no-form k = (simp (le-leb number 16383, lt-leb form 1), simp (le-leb number 16383, lt-leb form 1))
-
-    pub has-form : form ≤ 1 → {field : Octets} → identifier number form ≡ field → {r : W.Written} {after : Octets} →
-        (r ≡ written field at out) × (after ≡ outputAfter field at out) →
-        (r ≡ identifierWritten number form at out) × (after ≡ identifierAfter number form at out)
-    unfolding identifierWritten identifierAfter
-    has-form k e p = simp (le-leb number 16383, le-leb form 1, e) p
 
 module _ (number form size : ℕ) where
   pub too-small : number < 31 → IV.IllFormed ≡ within number form size
@@ -127,15 +115,16 @@ module _ (s : Octets) where
       all-ones h = simp (lt-leb (length s) 0, ← e, class, le-ltb (a % 32) 31)
 
 module _ (number form : ℕ) where
-  pub numbers-1 : number < 31 → identifier number form ≡ (128 + 32 * form + number) ∷ []
-  unfolding identifier
+  pub numbers-1 : number < 31 → value 1 ((128 + 32 * form + number) % 256) 0 0 ≡ fieldOf (identifier number form)
+  unfolding identifier fieldOf
   numbers-1 h = simp (lt-ltb number 31)
 
   module _ (h : 31 ≤ number) where
-    pub numbers-2 : number < 128 → identifier number form ≡ (159 + 32 * form) ∷ number ∷ []
-    unfolding identifier
+    pub numbers-2 : number < 128 → value 2 ((159 + 32 * form) % 256) (number % 256) 0 ≡ fieldOf (identifier number form)
+    unfolding identifier fieldOf
     numbers-2 k = simp (le-ltb number 31, lt-ltb number 128)
 
-    pub numbers-3 : 128 ≤ number → identifier number form ≡ (159 + 32 * form) ∷ (128 + number / 128) ∷ (number % 128) ∷ []
-    unfolding identifier
+    pub numbers-3 : 128 ≤ number →
+        value 3 ((159 + 32 * form) % 256) ((128 + number / 128) % 256) (number % 128 % 256) ≡ fieldOf (identifier number form)
+    unfolding identifier fieldOf
     numbers-3 k = simp (le-ltb number 31, le-ltb number 128)

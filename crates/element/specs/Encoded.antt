@@ -1,18 +1,14 @@
--- An identifier written: a number over 16,383 and a form over 1 have none.
-use Prim.Native.Nat.{ℕ}
-use mathlib.Core.Bool.{_&&_}
-use lib.Dec.{leb}
-use Rattle.element.specs.declared.Written as W
-use Rattle.element.specs.declared.Written.the-variants as WV
-use Rattle.element.specs.Octets.{Octets, if}
-use Rattle.element.specs.Field.{written, outputAfter}
-use Rattle.element.specs.Identifier.{identifier}
+-- A field handed over by value: how many octets it has, and each of them.
+use Prim.Native.Nat.{_%_}
+use mathlib.Core.List.{[], _∷_}
+use lib.ListN.{length, getD, take}
+use Rattle.element.specs.declared.Field as F
+use Rattle.element.specs.Octets.{Octets}
 
--- an identifier written: a number over 16,383 and a form over 1 have none
-unfoldable pub identifierWritten : (number form at : ℕ) (out : Octets) → W.Written
-identifierWritten number form at out =
-    if (leb number 16383 && leb form 1) (written (identifier number form) at out) WV.NoForm
+-- the value of a field of at most three; 0 where there is none
+unfoldable pub fieldOf : Octets → F.Field
+fieldOf s = record { size = length s; first = getD s 0 0 % 256; second = getD s 1 0 % 256; third = getD s 2 0 % 256 }
 
-unfoldable pub identifierAfter : (number form at : ℕ) (out : Octets) → Octets
-identifierAfter number form at out =
-    if (leb number 16383 && leb form 1) (outputAfter (identifier number form) at out) out
+-- and back
+unfoldable pub octetsIn : F.Field → Octets
+octetsIn f = take (f .size) (f .first ∷ f .second ∷ f .third ∷ [])

@@ -1,14 +1,11 @@
-// Lengths and identifiers: what stands at the head of the octets that are left of the parent, and what is written
-// into a lent output at a position.
+// Lengths and identifiers: what stands at the head of the octets that are left of the parent, and the field that says
+// a length or an identifier, by value.
 ghost use mathlib.Core.Path.{_≡_};
-ghost use mathlib.Core.List.{[], _∷_};
-ghost use Prim.Native.Nat.{_<_, _≤_};
-ghost use lib.ListN.{take};
-ghost use Rattle.element.specs.Field.{written, outputAfter};
+ghost use Prim.Native.Nat.{_%_, _<_};
+ghost use Rattle.element.specs.Encoded.{fieldOf};
 ghost use Rattle.element.specs.Length.{shortest, fieldSize};
 ghost use Rattle.element.specs.Decoded.{lengthAt, identifierAt, numbered};
-ghost use Rattle.element.specs.Identifier.{identifierSize};
-ghost use Rattle.element.specs.Encoded.{identifierWritten, identifierAfter};
+ghost use Rattle.element.specs.Identifier.{identifier, identifierSize};
 
 pub enum Length {
     // A value, and how many octets its field takes.
@@ -25,12 +22,12 @@ pub enum Identifier {
     TooLarge,
 }
 
-pub enum Written {
-    // How many octets were written.
-    Size(usize),
-    NoRoom,
-    // No field says this number.
-    NoForm,
+// A field: how many octets it has, one to three, and each of them; 0 where there is none.
+pub struct Field {
+    pub size: usize,
+    pub first: u8,
+    pub second: u8,
+    pub third: u8,
 }
 
 fn wide(x: u8) -> usize
@@ -104,20 +101,33 @@ pub fn length_size(value: usize) -> usize
     4
 }
 
-// The shortest field that says a value, into a lent output at a position.
-pub fn write_length(value: u16, out: &mut [u8], at: usize) -> Written
-    ensures { λ r. ⌜ (r ≡ written (shortest value) at (now (out .entry)))
-        × (now (out .exit) ≡ outputAfter (shortest value) at (now (out .entry))) ⌝ }
+// The shortest field that says a value.
+pub fn length_field(value: u16) -> Field
+    ensures { λ r. ⌜ r ≡ fieldOf (shortest value) ⌝ }
 {
     let low = (value % 256) as u8;
     if value < 128 {
-        return put(out, at, 1, low, 0, 0);
+        return Field {
+            size: 1,
+            first: low,
+            second: 0,
+            third: 0,
+        };
     }
     if value < 256 {
-        return put(out, at, 2, 0x81, low, 0);
+        return Field {
+            size: 2,
+            first: 0x81,
+            second: low,
+            third: 0,
+        };
     }
-    let high = (value / 256) as u8;
-    put(out, at, 3, 0x82, high, low)
+    Field {
+        size: 3,
+        first: 0x82,
+        second: (value / 256) as u8,
+        third: low,
+    }
 }
 
 // ---- identifiers
@@ -192,56 +202,41 @@ pub fn identifier_size(number: u16) -> usize
     3
 }
 
-// An identifier into a lent output at a position.
-pub fn write_identifier(number: u16, form: u16, out: &mut [u8], at: usize) -> Written
-    ensures { λ r. ⌜ (r ≡ identifierWritten number form at (now (out .entry)))
-        × (now (out .exit) ≡ identifierAfter number form at (now (out .entry))) ⌝ }
+// The low eight bits.
+fn octet(x: u32) -> u8
+    ensures { λ r. ⌜ r ≡ x % 256 ⌝ }
 {
-    if 16383 < number {
-        return Written::NoForm;
-    }
-    if 1 < form {
-        return Written::NoForm;
-    }
-    if number < 31 {
-        return put(out, at, 1, (0x80 + 32 * form + number) as u8, 0, 0);
-    }
-    let first = (0x9F + 32 * form) as u8;
-    if number < 128 {
-        return put(out, at, 2, first, number as u8, 0);
-    }
-    put(
-        out,
-        at,
-        3,
-        first,
-        (0x80 + number / 128) as u8,
-        (number % 128) as u8,
-    )
+    (x % 256) as u8
 }
 
-// ---- both
-
-// The first `size` of three octets into a lent output at a position.
-fn put(out: &mut [u8], at: usize, size: usize, first: u8, second: u8, third: u8) -> Written
-    requires { ⌜ (1 ≤ size) × (size ≤ 3) ⌝ }
-    ensures { λ r. ⌜ (r ≡ written (take size (first ∷ second ∷ third ∷ [])) at (now (out .entry)))
-        × (now (out .exit) ≡ outputAfter (take size (first ∷ second ∷ third ∷ [])) at (now (out .entry))) ⌝ }
+// The identifier of a number in a form. A number over 16,383 and a form over 1 have none: of what would be an octet the
+// low eight bits are given, so that the writer, which knows its entries, is spared a second test.
+pub fn identifier_field(number: u16, form: u16) -> Field
+    ensures { λ r. ⌜ r ≡ fieldOf (identifier number form) ⌝ }
 {
-    if out.len() < at {
-        return Written::NoRoom;
+    let number = number as u32;
+    let form = form as u32;
+    if number < 31 {
+        return Field {
+            size: 1,
+            first: octet(0x80 + 32 * form + number),
+            second: 0,
+            third: 0,
+        };
     }
-    if out.len() - at < size {
-        return Written::NoRoom;
+    let first = octet(0x9F + 32 * form);
+    if number < 128 {
+        return Field {
+            size: 2,
+            first,
+            second: octet(number),
+            third: 0,
+        };
     }
-    out[at] = first;
-    if size == 1 {
-        return Written::Size(1);
+    Field {
+        size: 3,
+        first,
+        second: octet(0x80 + number / 128),
+        third: octet(number % 128),
     }
-    out[at + 1] = second;
-    if size == 2 {
-        return Written::Size(2);
-    }
-    out[at + 2] = third;
-    Written::Size(3)
 }

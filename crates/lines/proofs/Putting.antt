@@ -21,11 +21,11 @@ module _ (line : Octets) (at : ℕ) (out : Octets) where
   pub fits : at + length line ≤ length out → {after : Octets} → after ≡ paste out at line (length line) →
       (LV.Written (at + length line) ≡ lineWritten line at out) × (after ≡ outputAfter line at out)
   unfolding lineWritten put
-  fits h e = (simp (le-leb (at + length line) (length out) h), e ∙ simp take-length (sym (roomy line at out h .1)))
+  fits h e = (simp (le-leb (at + length line) (length out) h), e ∙ simp take-length (sym (roomy line at out h)))
 
   pub spills : length out < at + length line → (LV.NoRoom ≡ lineWritten line at out) × (out ≡ outputAfter line at out)
   unfolding lineWritten
-  spills h = (simp (lt-leb (at + length line) (length out) h), sym (cramped line at out h .1))
+  spills h = (simp (lt-leb (at + length line) (length out) h), sym (cramped line at out h))
 
 -- the same octets, by another name
 pub named : (at : ℕ) (out : Octets) {x line : Octets} → x ≡ line → {w : L.Line} {after : Octets} →

@@ -88,4 +88,4 @@ module _ (kept : K.Kept) (f : Tagged) (at : ℕ) (table : List ℕ) (text : Octe
       component {next} w p q =
           let fits = le-leb (at + longest) (length text) h in
           let behind-it : next ≡ at + length (lineFor (length table) kept f) = cc (w ∙ written) in
-          (simp (fits, e, behind-it), p ∙ simp (fits, eq-eqb (f .tag) 1 one), (rw line at q) ∙ roomy _ _ _ there .1 ∙ simp fits)
+          (simp (fits, e, behind-it), p ∙ simp (fits, eq-eqb (f .tag) 1 one), (rw line at q) ∙ roomy _ _ _ there ∙ simp fits)

@@ -1,9 +1,10 @@
--- What `write` cites: the engine's answer over the table, then what `compose` makes, as the writing that they come to.
+-- What `judge_table`, `weigh` and `write` cite: what the row says of the table beside what is measured, as the weighing and the writing that they come to.
 use Prim.Native.Nat.{ℕ, zero, suc, _+_, _*_, _<_, _≤_}
 use mathlib.Core.Path.{_≡_, refl, sym, ap, _∙_}
 use mathlib.Core.List.{List, [], _∷_, List·Memᴰ, List·Memᴰ·cases-cons, List·Memᴰ·not-nil}
 use mathlib.Core.Logic.{_≢_, ⊎-elim}
 use lib.ListN.{length}
+use borrow.Author.Tests.{le-leb, lt-leb}
 use native.Mathlib.Nat.{zero-add}
 use native.Mathlib.Omega.{arith}
 use Rattle.element.specs.Octets.{Octets}
@@ -11,16 +12,17 @@ use Rattle.element.specs.Answer.{Answer, accepted, refused, _>>=_}
 use Rattle.component.specs.declared.Id as D
 use Rattle.component.specs.Grammar.{Parameter}
 use Rattle.component.specs.Table.{entryOf}
-use Rattle.component.specs.Composing.{entryStands, entriesFrom, entriesOf, Sizes, measured, octetsOf, composing}
-use Rattle.component.specs.Needed.{octetsNeeded, setSize}
-use Rattle.component.proofs.Taken.{taken, passed}
-use Rattle.component.proofs.Measuring.{ready}
+use Rattle.component.specs.Composing.{entryStands, entriesFrom, entriesOf, Sizes, measured, octetsOf, composing, written, outputAfter}
+use Rattle.component.specs.Needed.{octetsNeeded}
+use Rattle.component.proofs.Taken.{taken, passed, stopped}
+use Rattle.component.proofs.Measuring.{sizesOf, ready}
 use Rattle.operation.specs.Row.{Row, Item}
 use Rattle.operation.specs.Judge.{judge, countNamed}
 use Rattle.operation.specs.Finding.{rowOf}
 use Rattle.operation.specs.Coded.{itemAt, itemsFrom, judgement, verdict}
 use Rattle.operation.specs.Items.{itemsOf}
 use Rattle.operation.specs.Writing.{writing}
+use Rattle.operation.specs.Weighing.{said, weighing}
 use Rattle.operation.proofs.RowFaults.{row-faulty, pointed-at}
 use Rattle.operation.proofs.Readings.{either-row}
 
@@ -40,56 +42,21 @@ mark-below t i zero x m = absurd (List·Memᴰ·not-nil m)
 mark-below t i (suc n) x m =
     ⊎-elim (λ f. let g = ap (λ y. y .mark) f in omega arith) (λ k. omega (arith, mark-below t (i + 1) n x k)) (List·Memᴰ·cases-cons m)
 
-module _ (kind : ℕ) (id : D.Id) (specifier count : ℕ) (t : List ℕ) (source : Octets) (room : ℕ) where
-  -- what the engine says of the table
-  abbrev said : Answer ℕ
-  said = verdict kind specifier (itemsFrom t 0 count)
+module _ (kind specifier count : ℕ) (t : List ℕ) where
+  pub many : 64 < count → accepted 0 ≡ said kind specifier count t
+  unfolding said
+  many h = simp (lt-leb count 64)
 
-  pub not-measured : {n d : ℕ} → refused n d ≡ measured kind id count t source → writing kind id specifier count t source room ≡ refused n d
-  unfolding measured writing
-  not-measured {n} {d} e = go (entriesOf kind id count t source) e
-    where
-      go : (a : Answer (List Parameter)) → _≡_ {A = Answer Sizes} (refused n d) (a >>= λ ps. accepted (record { whole = octetsNeeded kind (id .count) ps; set = setSize ps })) →
-          (a >>= λ ps. rowOf kind specifier 0 >>= λ row. judge row (itemsOf 0 ps) >>= λ _. octetsOf kind id specifier ps room) ≡ refused n d
-      go (accepted ps) f = let z : _≡_ {A = ℕ} 0 1 = cc in absurd (omega arith)
-      go (refused m c) f =
-          let a : n ≡ m = cc in
-          let b : d ≡ c = cc in
-          rw (a, b)
+  module _ (few : count ≤ 64) where
+    pub cramped : length t < 4 * count → accepted 0 ≡ said kind specifier count t
+    unfolding said
+    cramped h = simp (le-leb count 64, lt-leb (4 * count) (length t))
 
-  module _ {sizes : Sizes} (e : accepted sizes ≡ measured kind id count t source) where
-    made : (ps : List Parameter) × (entriesOf kind id count t source ≡ accepted ps)
-    unfolding measured
-    made = let (ps, f, g) = taken (entriesOf kind id count t source) (sym e) in (ps, f)
+    pub judged : 4 * count ≤ length t → verdict kind specifier (itemsFrom t 0 count) ≡ said kind specifier count t
+    unfolding said
+    judged h = simp (le-leb count 64, le-leb (4 * count) (length t))
 
-    pub bounds : (4 * count ≤ length t) × (count ≤ 64)
-    bounds = let r = ready kind id count t source (made .1) in (r .room, r .few)
-
-    then : writing kind id specifier count t source room ≡ (said >>= λ _. composing kind id specifier count t source room)
-    unfolding writing composing verdict judgement
-    then =
-        let (ps, f) = made in
-        let items = same-items t source 0 count (ready kind id count t source f .entries) in
-        simp (f, items) (go (rowOf kind specifier 0) ps)
-      where
-        step : (a : Answer Unit) (n : ℕ) (b : Answer Octets) → (a >>= λ _. b) ≡ ((a >>= λ _. accepted n) >>= λ _. b)
-        step (accepted u) m b = refl
-        step (refused n d) m b = refl
-
-        go : (r : Answer Row) (ps : List Parameter) →
-            (r >>= λ row. judge row (itemsOf 0 ps) >>= λ _. octetsOf kind id specifier ps room)
-            ≡ ((r >>= λ row. judge row (itemsOf 0 ps) >>= λ _. accepted (countNamed row (itemsOf 0 ps))) >>= λ _. octetsOf kind id specifier ps room)
-        go (accepted row) ps = step (judge row (itemsOf 0 ps)) (countNamed row (itemsOf 0 ps)) (octetsOf kind id specifier ps room)
-        go (refused n d) ps = refl
-
-    -- where the row accepts, what `compose` says; where it refuses, what it says
-    pub composes : {named : ℕ} → accepted named ≡ said → composing kind id specifier count t source room ≡ writing kind id specifier count t source room
-    composes f = sym (then ∙ rw (← f))
-
-    pub refuses : {n d : ℕ} → refused n d ≡ said → refused n d ≡ writing kind id specifier count t source room
-    refuses f = sym (then ∙ rw (← f))
-
-  pub entry-below : {n d : ℕ} → refused n d ≡ said → n ≢ 11 → n ≢ 13 → d < count
+  pub entry-below : {n d : ℕ} → refused n d ≡ verdict kind specifier (itemsFrom t 0 count) → n ≢ 11 → n ≢ 13 → d < count
   unfolding verdict judgement
   entry-below {n} {d} e f g =
       ⊎-elim
@@ -104,3 +71,88 @@ module _ (kind : ℕ) (id : D.Id) (specifier count : ℕ) (t : List ℕ) (source
           let b : d ≡ c = cc in
           let (x, mem, mark) = pointed-at (row-faulty row (itemsFrom t 0 count) q) (λ k. g (a ∙ k)) in
           omega (arith, rw zero-add at (mark-below t 0 count x mem))
+
+-- what is done with the parameters once the row has accepted them
+module _ (kind : ℕ) (id : D.Id) (specifier count : ℕ) (t : List ℕ) (source : Octets) {A : Type 0} (work : List Parameter → Answer A) where
+  abbrev after : Answer A
+  after = entriesOf kind id count t source >>= λ ps. rowOf kind specifier 0 >>= λ row. judge row (itemsOf 0 ps) >>= λ _. work ps
+
+  pub not-measured : {n d : ℕ} → refused n d ≡ measured kind id count t source → refused n d ≡ after
+  unfolding measured
+  not-measured e = sym (stopped (entriesOf kind id count t source) (sizesOf kind (id .count)) _ (sym e))
+
+  then : {ps : List Parameter} → entriesOf kind id count t source ≡ accepted ps → after ≡ (said kind specifier count t >>= λ _. work ps)
+  unfolding verdict judgement
+  then {ps} e =
+      let r = ready kind id count t source e in
+      simp (e, ← judged kind specifier count t (r .few) (r .room), same-items t source 0 count (r .entries)) (go (rowOf kind specifier 0))
+    where
+      step : (a : Answer Unit) (n : ℕ) (b : Answer A) → (a >>= λ _. b) ≡ ((a >>= λ _. accepted n) >>= λ _. b)
+      step (accepted u) m b = refl
+      step (refused n d) m b = refl
+
+      go : (r : Answer Row) →
+          (r >>= λ row. judge row (itemsOf 0 ps) >>= λ _. work ps)
+          ≡ ((r >>= λ row. judge row (itemsOf 0 ps) >>= λ _. accepted (countNamed row (itemsOf 0 ps))) >>= λ _. work ps)
+      go (accepted row) = step (judge row (itemsOf 0 ps)) (countNamed row (itemsOf 0 ps)) (work ps)
+      go (refused n d) = refl
+
+  -- where the row accepts, as without it; where it refuses, what it says
+  pub fits : {named : ℕ} → accepted named ≡ said kind specifier count t → (entriesOf kind id count t source >>= work) ≡ after
+  fits {named} f = go (entriesOf kind id count t source) refl
+    where
+      go : (a : Answer (List Parameter)) → entriesOf kind id count t source ≡ a → (entriesOf kind id count t source >>= work) ≡ after
+      go (accepted ps) e = rw e (sym (rw (e, ← f) at (then e)))
+      go (refused n d) e = rw e refl
+
+  pub refuses : {sizes : Sizes} → accepted sizes ≡ measured kind id count t source → {n d : ℕ} → refused n d ≡ said kind specifier count t → refused n d ≡ after
+  unfolding measured
+  refuses e f = let (ps, g, _) = taken (entriesOf kind id count t source) (sym e) in sym (then g ∙ rw (← f))
+
+module _ (kind : ℕ) (id : D.Id) (specifier count : ℕ) (t : List ℕ) (source : Octets) where
+  pub weighs : {sizes : Sizes} → accepted sizes ≡ measured kind id count t source → {named : ℕ} → accepted named ≡ said kind specifier count t →
+      accepted (sizes .whole) ≡ weighing kind id specifier count t source
+  unfolding measured weighing
+  weighs {sizes} e f = go (entriesOf kind id count t source) e ∙ fits kind id specifier count t source (λ ps. accepted (octetsNeeded kind (id .count) ps)) f
+    where
+      go : (a : Answer (List Parameter)) → accepted sizes ≡ (a >>= λ ps. accepted (sizesOf kind (id .count) ps)) →
+          accepted (sizes .whole) ≡ (a >>= λ ps. accepted (octetsNeeded kind (id .count) ps))
+      go (accepted ps) g = let k : sizes ≡ sizesOf kind (id .count) ps = cc in rw k refl
+      go (refused n d) g = let z : _≡_ {A = ℕ} 0 1 = cc in absurd (omega arith)
+
+  pub weight-refused : {sizes : Sizes} → accepted sizes ≡ measured kind id count t source → {n d : ℕ} → refused n d ≡ said kind specifier count t →
+      refused n d ≡ weighing kind id specifier count t source
+  unfolding weighing
+  weight-refused e f = refuses kind id specifier count t source (λ ps. accepted (octetsNeeded kind (id .count) ps)) e f
+
+  pub no-weight : {n d : ℕ} → refused n d ≡ measured kind id count t source → refused n d ≡ weighing kind id specifier count t source
+  unfolding weighing
+  no-weight e = not-measured kind id specifier count t source (λ ps. accepted (octetsNeeded kind (id .count) ps)) e
+
+  -- what the writer leaves in the output
+  module _ (out : Octets) where
+    abbrev Outcome : (answer : Answer ℕ) (after : Octets) → Type 0
+    Outcome answer after =
+        (answer ≡ written (writing kind id specifier count t source (length out)))
+        × (after ≡ outputAfter out (writing kind id specifier count t source (length out)))
+
+    pub composes : {named : ℕ} → accepted named ≡ said kind specifier count t → {answer : Answer ℕ} {after : Octets} →
+        (answer ≡ written (composing kind id specifier count t source (length out)))
+        × (after ≡ outputAfter out (composing kind id specifier count t source (length out))) → Outcome answer after
+    unfolding writing composing
+    composes f p =
+        let e = fits kind id specifier count t source (λ ps. octetsOf kind id specifier ps (length out)) f in
+        (p .0 ∙ ap written e, p .1 ∙ ap (outputAfter out) e)
+
+    unchanged : {n d : ℕ} → refused n d ≡ writing kind id specifier count t source (length out) → Outcome (refused n d) out
+    unfolding written outputAfter
+    unchanged e = (ap written e, ap (outputAfter out) e)
+
+    pub row-refuses : {sizes : Sizes} → accepted sizes ≡ measured kind id count t source → {n d : ℕ} → refused n d ≡ said kind specifier count t →
+        Outcome (refused n d) out
+    unfolding writing
+    row-refuses e f = unchanged (refuses kind id specifier count t source (λ ps. octetsOf kind id specifier ps (length out)) e f)
+
+    pub measure-refuses : {n d : ℕ} → refused n d ≡ measured kind id count t source → Outcome (refused n d) out
+    unfolding writing
+    measure-refuses e = unchanged (not-measured kind id specifier count t source (λ ps. octetsOf kind id specifier ps (length out)) e)

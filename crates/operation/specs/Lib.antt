@@ -14,6 +14,7 @@ pub mod Noting
 pub mod Reading
 pub mod Inside
 pub mod Writing
+pub mod Weighing
 pub mod Told
 pub mod Sheet
 pub mod Finishing

@@ -15,6 +15,7 @@ use sheet::parameters_from;
 ghost use mathlib.Core.Path.{_≡_};
 ghost use Prim.Native.Nat.{_*_, _<_, _≤_};
 ghost use lib.ListN.{length};
+ghost use Rattle.component.specs.Told.{countIn};
 ghost use Rattle.operation.specs.Coded.{judgedIn};
 ghost use Rattle.operation.specs.Finishing.{
   specifierFor,
@@ -25,6 +26,7 @@ ghost use Rattle.operation.specs.Finishing.{
 };
 ghost use Rattle.operation.specs.Caller.{order};
 ghost use Rattle.operation.specs.Reading.{readingAt, tableAfter};
+ghost use Rattle.operation.specs.Weighing.{said, weighing};
 ghost use Rattle.operation.specs.Model.{reader, writer};
 ghost use Rattle.operation.specs.Told.{told, answerIn, writtenIn};
 
@@ -190,8 +192,54 @@ pub fn read(component: &[u8], specifier: u8, table: &mut [u16]) -> Reading
 
 // ---- writer
 
+// What the row says of the entries, an entry being the detail of 12 and of 14. Where the table has no room for them it
+// says nothing: `measure` refuses that.
+fn judge_table(kind: u8, specifier: u8, count: usize, table: &[u16]) -> Count
+    ensures { λ r. ⌜ countIn r ≡ said kind specifier count (now (table .entry)) ⌝ }
+{
+    if 64 < count {
+        return Count::Of(0);
+    }
+    if table.len() < 4 * count {
+        return Count::Of(0);
+    }
+    match judge_operation(kind, specifier, table, count) {
+        Judged::Fits(named) => Count::Of(named),
+        Judged::NoRow => Count::Refused {
+            number: 11,
+            detail: 0,
+        },
+        Judged::Again(entry) => Count::Refused {
+            number: 12,
+            detail: entry as u32,
+        },
+        Judged::Missing(number) => Count::Refused {
+            number: 13,
+            detail: number as u32,
+        },
+        Judged::Both(entry) => Count::Refused {
+            number: 14,
+            detail: entry as u32,
+        },
+    }
+}
+
+// The octets that a component takes: all of the writer's refusals but 17, which needs the output.
+pub fn weigh(kind: u8, id: Id, specifier: u8, count: usize, table: &[u16], source: &[u8]) -> Count
+    ensures { λ r. ⌜ countIn r ≡ weighing kind id specifier count (now (table .entry)) (now (source .entry)) ⌝ }
+{
+    match component::measure(kind, id, count, table, source) {
+        Measured::Octets { whole, set: _ } => match judge_table(kind, specifier, count, table) {
+            Count::Of(_) => Count::Of(whole),
+            Count::Refused { number, detail } => Count::Refused { number, detail },
+        },
+        Measured::Refused { number, detail } => Count::Refused { number, detail },
+    }
+}
+
 // Writes a component from a table of entries and the octets that they point into. Only the octets that are counted
-// change, and on a refusal none.
+// change, and on a refusal none. The row is judged first, so that `compose` measures once; where the row refuses, what
+// `measure` refuses comes before it.
 pub fn write(
     kind: u8,
     id: Id,
@@ -206,33 +254,18 @@ pub fn write(
         × (now (out .exit) ≡
         writer (order kind id specifier count (now (table .entry)) (now (source .entry))) (now (out .entry)) .output) ⌝ }
 {
-    match component::measure(kind, id, count, table, source) {
-        Measured::Octets { whole: _, set: _ } => {
-            match judge_operation(kind, specifier, table, count) {
-                Judged::Fits(_) => {
-                    match component::compose(kind, id, specifier, count, table, source, out) {
-                        Count::Of(octets) => Writing::Accepted(octets),
-                        Count::Refused { number, detail } => Writing::Refused { number, detail },
-                    }
-                }
-                Judged::NoRow => Writing::Refused {
-                    number: 11,
-                    detail: 0,
-                },
-                Judged::Again(entry) => Writing::Refused {
-                    number: 12,
-                    detail: entry as u32,
-                },
-                Judged::Missing(number) => Writing::Refused {
-                    number: 13,
-                    detail: number as u32,
-                },
-                Judged::Both(entry) => Writing::Refused {
-                    number: 14,
-                    detail: entry as u32,
-                },
+    match judge_table(kind, specifier, count, table) {
+        Count::Of(_) => {
+            match component::compose(kind, id, specifier, count, table, source, out) {
+                Count::Of(octets) => Writing::Accepted(octets),
+                Count::Refused { number, detail } => Writing::Refused { number, detail },
             }
         }
-        Measured::Refused { number, detail } => Writing::Refused { number, detail },
+        Count::Refused { number, detail } => {
+            match component::measure(kind, id, count, table, source) {
+                Measured::Octets { whole: _, set: _ } => Writing::Refused { number, detail },
+                Measured::Refused { number, detail } => Writing::Refused { number, detail },
+            }
+        }
     }
 }

@@ -1,23 +1,29 @@
 -- `component::put_identifier` meets its contract.
 -- Assumes nothing.
 use borrow.Author.Needs.{needs}
-use native.Mathlib.Omega.{arith}
-use Rattle.component.proofs.Putting.{lands, landed, has-form}
+use Rattle.element.specs.Identifier.{only}
+use Rattle.element.proofs.IdentifierLaws.{sizes, octets}
+use Rattle.component.proofs.Putting.{by-value, value-room}
 use Rattle.component.proofs.composing.put_identifier.Statement.{statement}
 use Rattle.component.proofs.composing.put_identifier.Tie as tie
 
-write-identifier-requires : tie.Need-write-identifier-requires
-write-identifier-requires c κs = search needs
+identifier-field-requires : tie.Need-identifier-field-requires
+identifier-field-requires c κs = search needs
 
-past-requires : tie.Need-past-requires
-past-requires c κs = omega (arith, lands _ _ _ (c .before .before .before .before .before .pre .2) (has-form _ _ _ _ (omega arith) (omega arith) (c .before .before .write-identifier .ensures)) .0)
+put-field-requires : tie.Need-put-field-requires
+put-field-requires c κs =
+    let p = c .before .before .before .pre in
+    value-room _ (sizes (only _ _ (p .0) (p .1))) (c .identifier-field .ensures) _ (p .2)
 
 same-length : tie.Need-same-length
 same-length c = search needs
 
 returns : tie.Need-returns
-returns c = landed _ _ _ (c .before .before .before .before .before .before .pre .2) (has-form _ _ _ _ (omega arith) (omega arith) (c .before .before .before .write-identifier .ensures)) (c .past .ensures)
+returns c =
+    let p = c .before .before .before .before .before .before .pre in
+    let f = only _ _ (p .0) (p .1) in
+    by-value _ (octets f) (sizes f) (c .before .before .before .identifier-field .ensures) (c .before .before .put-field .ensures)
 
 pub put-identifier-spec : {M : Type 1} → statement M
 put-identifier-spec =
-    tie.close (tie.spec write-identifier-requires past-requires same-length returns)
+    tie.close (tie.spec identifier-field-requires put-field-requires same-length returns)

@@ -1,26 +1,30 @@
 -- `component::put_length` meets its contract.
 -- Assumes nothing.
 use borrow.Author.Needs.{needs}
-use native.Mathlib.Omega.{arith}
-use Rattle.component.proofs.Putting.{lands, landed}
+use Rattle.element.specs.Length.{short}
+use Rattle.element.proofs.LengthLaws.{sizes, octets}
+use Rattle.component.proofs.Putting.{by-value, value-room}
 use Rattle.component.proofs.composing.put_length.Statement.{statement}
 use Rattle.component.proofs.composing.put_length.Tie as tie
 
-cast-write-length : tie.Need-cast-write-length
-cast-write-length c = search needs
+cast-length-field : tie.Need-cast-length-field
+cast-length-field c = search needs
 
-write-length-requires : tie.Need-write-length-requires
-write-length-requires c κs = search needs
+length-field-requires : tie.Need-length-field-requires
+length-field-requires c κs = search needs
 
-past-requires : tie.Need-past-requires
-past-requires c κs = omega (arith, lands _ _ _ (c .before .before .before .before .before .pre .1) (c .before .before .write-length .ensures) .0)
+put-field-requires : tie.Need-put-field-requires
+put-field-requires c κs = value-room _ (sizes (short _ (c .before .before .before .pre .0))) (c .length-field .ensures) _ (c .before .before .before .pre .1)
 
 same-length : tie.Need-same-length
 same-length c = search needs
 
 returns : tie.Need-returns
-returns c = landed _ _ _ (c .before .before .before .before .before .before .pre .1) (c .before .before .before .write-length .ensures) (c .past .ensures)
+returns c =
+    let f = short _ (c .before .before .before .before .before .before .pre .0) in
+    by-value _ (octets f) (sizes f) (c .before .before .before .length-field .ensures) (c .before .before .put-field .ensures)
 
 pub put-length-spec : {M : Type 1} → statement M
 put-length-spec =
-    tie.close (tie.spec cast-write-length write-length-requires past-requires same-length returns)
+    tie.close
+    (tie.spec cast-length-field length-field-requires put-field-requires same-length returns)

@@ -7,12 +7,12 @@ use Rattle.component.specs.Emitting.{sized}
 use Rattle.component.proofs.Counting.{left, begins, ends, goes-on, stops}
 use borrow.Author.Needs.{needs}
 use native.Mathlib.Omega.{arith}
-use Rattle.element.proofs.IdentifierLaws as Identifier
 use Rattle.component.proofs.composing.set_size.Statement.{statement}
 use Rattle.component.proofs.composing.set_size.Tie as tie
 
 abbrev Inv-entries : tie.InvT-entries
-Inv-entries count table source i₀ sum₀ i sum = (i ≤ count) × (sum ≤ 65542 * i) × (sized (entriesFrom 0 count table source) ≡ left count table source i sum)
+Inv-entries count table source i₀ sum₀ i sum =
+    (i ≤ count) × (sum ≤ 65542 * i) × (sized (entriesFrom 0 count table source) ≡ left count table source i sum)
 
 abbrev μ-entries : tie.MeasureT-entries
 μ-entries count table source i₀ sum₀ i sum = count - i
@@ -23,39 +23,33 @@ entries-holds c = (search needs, search needs, begins _ _ _)
 entry-stands-requires : tie.Need-entry-stands-requires Inv-entries μ-entries
 entry-stands-requires c κs = search needs
 
-mul-identifier-size : tie.Need-mul-identifier-size Inv-entries μ-entries
-mul-identifier-size c = search needs
+mul-parameter-size : tie.Need-mul-parameter-size Inv-entries μ-entries
+mul-parameter-size c = search needs
 
-mul-identifier-size-2 : tie.Need-mul-identifier-size-2 Inv-entries μ-entries
-mul-identifier-size-2 c = search needs
+mul-parameter-size-2 : tie.Need-mul-parameter-size-2 Inv-entries μ-entries
+mul-parameter-size-2 c = search needs
 
-shared-slice-read-identifier-size :
-    tie.Need-shared-slice-read-identifier-size Inv-entries μ-entries
-shared-slice-read-identifier-size c = search needs
+shared-slice-read-parameter-size : tie.Need-shared-slice-read-parameter-size Inv-entries μ-entries
+shared-slice-read-parameter-size c = search needs
 
-identifier-size-requires : tie.Need-identifier-size-requires Inv-entries μ-entries
-identifier-size-requires c κs = search needs
+mul-parameter-size-3 : tie.Need-mul-parameter-size-3 Inv-entries μ-entries
+mul-parameter-size-3 c = search needs
 
-mul-wide : tie.Need-mul-wide Inv-entries μ-entries
-mul-wide c = search needs
+add-parameter-size : tie.Need-add-parameter-size Inv-entries μ-entries
+add-parameter-size c = search needs
 
-add-wide : tie.Need-add-wide Inv-entries μ-entries
-add-wide c = search needs
+mul-parameter-size-4 : tie.Need-mul-parameter-size-4 Inv-entries μ-entries
+mul-parameter-size-4 c = search needs
 
-mul-wide-2 : tie.Need-mul-wide-2 Inv-entries μ-entries
-mul-wide-2 c = search needs
+shared-slice-read-parameter-size-2 :
+    tie.Need-shared-slice-read-parameter-size-2 Inv-entries μ-entries
+shared-slice-read-parameter-size-2 c = search needs
 
-shared-slice-read-wide : tie.Need-shared-slice-read-wide Inv-entries μ-entries
-shared-slice-read-wide c = search needs
-
-wide-requires : tie.Need-wide-requires Inv-entries μ-entries
-wide-requires c κs = search needs
-
-element-size-requires : tie.Need-element-size-requires Inv-entries μ-entries
-element-size-requires c κs = omega (arith, Identifier.small _ (c .before .before .identifier-size .ensures))
+parameter-size-requires : tie.Need-parameter-size-requires Inv-entries μ-entries
+parameter-size-requires c κs = search needs
 
 add-sum : tie.Need-add-sum Inv-entries μ-entries
-add-sum c = omega (arith, Identifier.small _ (c .before .before .before .identifier-size .ensures))
+add-sum c = search needs
 
 add-i : tie.Need-add-i Inv-entries μ-entries
 add-i c = search needs
@@ -65,18 +59,17 @@ entries-less c = search needs
 
 entries-again : tie.Need-entries-again Inv-entries μ-entries
 entries-again c =
-    let head = c .before .before .before in
-    let stood = head .before .before in
+    let stood = c .before .before .before in
     let turn = stood .before .before .before in (
       search needs,
-      omega (arith, Identifier.small _ (head .identifier-size .ensures)),
+      omega arith,
       turn .entries .inv .2
           ∙ sym (goes-on _ _ _ _ _ (stood .before .before .if1 .left) (sym (stood .before .entry-stands .ensures) ∙ stood .if2 .taken)
-          (c .element-size .ensures .0 ∙ rw (head .identifier-size .ensures, c .before .wide .ensures .0))),
+          (c .parameter-size .ensures .0)),
     )
 
-cast-t19 : tie.Need-cast-t19 Inv-entries μ-entries
-cast-t19 c = search needs
+cast-t20 : tie.Need-cast-t20 Inv-entries μ-entries
+cast-t20 c = search needs
 
 returns : tie.Need-returns Inv-entries μ-entries
 returns c = (ends _ _ _ _ _ (c .if1 .taken) ∙ sym (c .before .entries .inv .2), omega arith)
@@ -92,20 +85,18 @@ set-size-spec =
     μ-entries
     entries-holds
     entry-stands-requires
-    mul-identifier-size
-    mul-identifier-size-2
-    shared-slice-read-identifier-size
-    identifier-size-requires
-    mul-wide
-    add-wide
-    mul-wide-2
-    shared-slice-read-wide
-    wide-requires
-    element-size-requires
+    mul-parameter-size
+    mul-parameter-size-2
+    shared-slice-read-parameter-size
+    mul-parameter-size-3
+    add-parameter-size
+    mul-parameter-size-4
+    shared-slice-read-parameter-size-2
+    parameter-size-requires
     add-sum
     add-i
     entries-less
     entries-again
-    cast-t19
+    cast-t20
     returns
     returns-2)

@@ -1,4 +1,4 @@
--- `component::copy_octets` meets its contract.
+-- `component::copy_each` meets its contract.
 -- Assumes nothing.
 use Prim.Native.Nat.{_-_, _≤_}
 use mathlib.Core.Path.{_≡_}
@@ -6,8 +6,8 @@ use lib.ListN.{length, length-set}
 use borrow.Author.Needs.{needs}
 use native.Mathlib.Omega.{arith}
 use Rattle.component.proofs.Putting.{copied, none-copied, more-copied, all-copied}
-use Rattle.component.proofs.composing.copy_octets.Statement.{statement}
-use Rattle.component.proofs.composing.copy_octets.Tie as tie
+use Rattle.component.proofs.composing.copy_each.Statement.{statement}
+use Rattle.component.proofs.composing.copy_each.Tie as tie
 
 abbrev Inv-octets : tie.InvT-octets
 Inv-octets source start size out₀ at i₀ out i = (i ≤ size) × (length out ≡ length out₀) × (out ≡ copied source start at out₀ i)
@@ -48,8 +48,8 @@ same-length c = search needs
 returns : tie.Need-returns Inv-octets μ-octets
 returns c = let e : c .before .octets .i ≡ c .before .before .args .size = omega arith in all-copied _ _ _ _ _ (omega arith) (rw e at (c .before .octets .inv .2))
 
-pub copy-octets-spec : {M : Type 1} → statement M
-copy-octets-spec =
+pub copy-each-spec : {M : Type 1} → statement M
+copy-each-spec =
     tie.close
     (tie.spec
     Inv-octets

@@ -1,0 +1,49 @@
+-- `operation::weigh` meets its contract: what `measure` refuses, then what the row says, then the octets that were measured.
+-- Assumes nothing.
+use borrow.Author.Needs.{needs}
+use mathlib.Core.Path.{sym, ap, _∙_}
+use Rattle.component.specs.Told.{countIn, measureIn}
+use Rattle.operation.proofs.Writer.{weighs, weight-refused, no-weight}
+use Rattle.operation.proofs.weigh.Statement.{statement}
+use Rattle.operation.proofs.weigh.Tie as tie
+
+measure-requires : tie.Need-measure-requires
+measure-requires c κs = search needs
+
+enum-known-whole : tie.Need-enum-known-whole
+enum-known-whole c = search needs
+
+judge-table-requires : tie.Need-judge-table-requires
+judge-table-requires c κs = search needs
+
+enum-told : tie.Need-enum-told
+enum-told c = search needs
+
+enum-known-number : tie.Need-enum-known-number
+enum-known-number c = search needs
+
+enum-known-number-2 : tie.Need-enum-known-number-2
+enum-known-number-2 c = search needs
+
+returns : tie.Need-returns
+returns c = weighs _ _ _ _ _ _ (sym (ap measureIn (c .before .before .before .before .whole .given .1)) ∙ c .before .before .before .before .before .before .measure .ensures) (sym (ap countIn (c .enum-told .given .1)) ∙ c .before .before .judge-table .ensures)
+
+returns-2 : tie.Need-returns-2
+returns-2 c = weight-refused _ _ _ _ _ _ (sym (ap measureIn (c .before .before .before .before .before .whole .given .1)) ∙ c .before .before .before .before .before .before .before .measure .ensures) (sym (ap countIn (c .before .number .given .1)) ∙ c .before .before .before .judge-table .ensures)
+
+returns-3 : tie.Need-returns-3
+returns-3 c = no-weight _ _ _ _ _ _ (sym (ap measureIn (c .before .number2 .given .1)) ∙ c .before .before .before .measure .ensures)
+
+pub weigh-spec : {M : Type 1} → statement M
+weigh-spec =
+    tie.close
+    (tie.spec
+    measure-requires
+    enum-known-whole
+    judge-table-requires
+    enum-told
+    enum-known-number
+    enum-known-number-2
+    returns
+    returns-2
+    returns-3)
