@@ -1,5 +1,6 @@
 // The operation rows over a component: reading and writing.
 mod engine;
+mod names;
 mod rows;
 mod sheet;
 
@@ -59,10 +60,9 @@ pub enum Writing {
     Refused { number: u8, detail: u32 },
 }
 
-// What the row names and occurs again, and is not Digits; else how many of the parameters the row names, and whether two of
-// them share a line.
+// What the row names and occurs again, and is not Digits; else how many of the parameters the row names.
 enum Repeat {
-    None { named: usize, shared: bool },
+    None { named: usize },
     At(usize),
 }
 
@@ -70,12 +70,6 @@ enum Repeat {
 enum Missing {
     None,
     Number(u16),
-}
-
-// A choice of which both members occur: the last entry that is one of them.
-enum Both {
-    None,
-    At(usize),
 }
 
 // ---- reader

@@ -1,74 +1,105 @@
--- `operation::first_missing` meets its contract. The invariant: the whole answer is that of the lines that are left; what each line does is one
--- law of `RowWalk`.
+-- `operation::first_missing` meets its contract. The invariant: the whole answer is that of what is left of the list; what each key does is one law of
+-- `Musts`.
 -- Assumes nothing.
 use Prim.Native.Nat.{_-_}
 use mathlib.Core.Path.{_≡_, refl, sym, _∙_}
 use lib.ListN.{length}
 use borrow.Author.Needs.{needs}
 use borrow.Author.Tests.{not-true, not-false}
-use Rattle.operation.specs.Coded.{rowIn}
-use Rattle.operation.specs.Noting.{asked}
-use Rattle.operation.proofs.RowWalk.{rowFrom, line-at, row-over, all-met, met-here, not-asked, lacks}
+use Rattle.operation.specs.Firsts.{lacking}
+use Rattle.operation.proofs.Musts.{lackingFrom, none-left, noted, not-one, other-noted, neither}
 use Rattle.operation.proofs.engine.first_missing.Statement.{statement}
 use Rattle.operation.proofs.engine.first_missing.Tie as tie
 
-abbrev Inv-lines : tie.InvT-lines
-Inv-lines row met at₀ at = asked (rowIn row) met 0 ≡ asked (rowFrom row at) met at
+abbrev Inv-names : tie.InvT-names
+Inv-names must one other seen at₀ at = lacking must one other seen ≡ lackingFrom must one other seen at
 
-abbrev μ-lines : tie.MeasureT-lines
-μ-lines row met at₀ at = length row - at
+abbrev μ-names : tie.MeasureT-names
+μ-names must one other seen at₀ at = length must - at
 
-lines-holds : tie.Need-lines-holds Inv-lines μ-lines
-lines-holds c = refl
+names-holds : tie.Need-names-holds Inv-names μ-names
+names-holds c = refl
 
-add-next : tie.Need-add-next Inv-lines μ-lines
+add-next : tie.Need-add-next Inv-names μ-names
 add-next c = search needs
 
-shared-slice-read-if2 : tie.Need-shared-slice-read-if2 Inv-lines μ-lines
-shared-slice-read-if2 c = search needs
+mul-wide : tie.Need-mul-wide Inv-names μ-names
+mul-wide c = search needs
 
-mul-line : tie.Need-mul-line Inv-lines μ-lines
-mul-line c = search needs
+shared-slice-read-wide : tie.Need-shared-slice-read-wide Inv-names μ-names
+shared-slice-read-wide c = search needs
 
-shared-slice-read-line : tie.Need-shared-slice-read-line Inv-lines μ-lines
-shared-slice-read-line c = search needs
+wide-requires : tie.Need-wide-requires Inv-names μ-names
+wide-requires c κs = search needs
 
-cast-number : tie.Need-cast-number Inv-lines μ-lines
-cast-number c = search needs
+has-requires : tie.Need-has-requires Inv-names μ-names
+has-requires c κs = search needs
 
-lines-less : tie.Need-lines-less Inv-lines μ-lines
-lines-less c = search needs
+mul-t16 : tie.Need-mul-t16 Inv-names μ-names
+mul-t16 c = search needs
 
-lines-again : tie.Need-lines-again Inv-lines μ-lines
-lines-again c = c .before .before .before .before .before .lines .inv ∙ sym (not-asked _ _ (line-at _ _ (c .before .before .before .before .if1 .left)) (c .if3 .left))
+shared-slice-read-t18 : tie.Need-shared-slice-read-t18 Inv-names μ-names
+shared-slice-read-t18 c = search needs
 
-lines-less-2 : tie.Need-lines-less-2 Inv-lines μ-lines
-lines-less-2 c = search needs
+has-requires-2 : tie.Need-has-requires-2 Inv-names μ-names
+has-requires-2 c κs = search needs
 
-lines-again-2 : tie.Need-lines-again-2 Inv-lines μ-lines
-lines-again-2 c = c .before .before .before .lines .inv ∙ sym (met-here _ _ _ (line-at _ _ (c .before .before .if1 .left)) (not-false _ (c .if2 .left)))
+mul-t21 : tie.Need-mul-t21 Inv-names μ-names
+mul-t21 c = search needs
 
-returns : tie.Need-returns Inv-lines μ-lines
-returns c = all-met _ _ (row-over _ _ (c .if1 .taken)) ∙ sym (c .before .lines .inv)
+shared-slice-read-t23 : tie.Need-shared-slice-read-t23 Inv-names μ-names
+shared-slice-read-t23 c = search needs
 
-returns-2 : tie.Need-returns-2 Inv-lines μ-lines
-returns-2 c = lacks _ _ (line-at _ _ (c .before .before .before .before .if1 .left)) (not-true _ (c .before .before .if2 .taken)) (c .if3 .taken) ∙ sym (c .before .before .before .before .before .lines .inv)
+names-less : tie.Need-names-less Inv-names μ-names
+names-less c = search needs
+
+names-again : tie.Need-names-again Inv-names μ-names
+names-again c =
+    c .before .before .before .before .before .before .before .before .names .inv
+    ∙ sym (other-noted (c .before .before .before .before .before .before .before .before .before .before .args .must .now) (c .before .before .before .before .before .before .before .before .before .before .args .one) (c .before .before .before .before .before .before .before .before .before .before .args .other) (c .before .before .before .before .before .before .before .before .before .before .args .seen .now) (c .before .before .before .before .before .before .before .before .names .at) (c .before .before .before .before .before .before .before .if1 .left) (c .before .before .before .before .before .wide .ensures .0) (c .before .before .before .before .has .ensures) (not-true _ (c .before .before .before .if2 .taken)) (c .before .before .if3 .left) (c .before .has2 .ensures) (not-false _ (c .if4 .left)))
+
+names-less-2 : tie.Need-names-less-2 Inv-names μ-names
+names-less-2 c = search needs
+
+names-again-2 : tie.Need-names-again-2 Inv-names μ-names
+names-again-2 c =
+    c .before .before .before .before .before .names .inv
+    ∙ sym (noted (c .before .before .before .before .before .before .before .args .must .now) (c .before .before .before .before .before .before .before .args .one) (c .before .before .before .before .before .before .before .args .other) (c .before .before .before .before .before .before .before .args .seen .now) (c .before .before .before .before .before .names .at) (c .before .before .before .before .if1 .left) (c .before .before .wide .ensures .0) (c .before .has .ensures) (not-false _ (c .if2 .left)))
+
+returns : tie.Need-returns Inv-names μ-names
+returns c = none-left (c .before .before .before .args .must .now) (c .before .before .before .args .one) (c .before .before .before .args .other) (c .before .before .before .args .seen .now) (c .before .names .at) (c .if1 .taken) ∙ sym (c .before .names .inv)
+
+returns-2 : tie.Need-returns-2 Inv-names μ-names
+returns-2 c =
+    not-one (c .before .before .before .before .before .before .before .before .before .args .must .now) (c .before .before .before .before .before .before .before .before .before .args .one) (c .before .before .before .before .before .before .before .before .before .args .other) (c .before .before .before .before .before .before .before .before .before .args .seen .now) (c .before .before .before .before .before .before .before .names .at) (c .before .before .before .before .before .before .if1 .left) (c .before .before .before .before .wide .ensures .0) (c .before .before .before .has .ensures) (not-true _ (c .before .before .if2 .taken)) (c .before .if3 .taken)
+    ∙ sym (c .before .before .before .before .before .before .before .names .inv)
+
+returns-3 : tie.Need-returns-3 Inv-names μ-names
+returns-3 c =
+    neither (c .before .before .before .before .before .before .before .before .before .before .before .args .must .now) (c .before .before .before .before .before .before .before .before .before .before .before .args .one) (c .before .before .before .before .before .before .before .before .before .before .before .args .other) (c .before .before .before .before .before .before .before .before .before .before .before .args .seen .now) (c .before .before .before .before .before .before .before .before .before .names .at) (c .before .before .before .before .before .before .before .before .if1 .left) (c .before .before .before .before .before .before .wide .ensures .0) (c .before .before .before .before .before .has .ensures) (not-true _ (c .before .before .before .before .if2 .taken)) (c .before .before .before .if3 .left) (c .before .before .has2 .ensures) (not-true _ (c .before .if4 .taken))
+    ∙ sym (c .before .before .before .before .before .before .before .before .before .names .inv)
 
 pub first-missing-spec : {M : Type 1} → statement M
 first-missing-spec =
     tie.close
     (tie.spec
-    Inv-lines
-    μ-lines
-    lines-holds
+    Inv-names
+    μ-names
+    names-holds
     add-next
-    shared-slice-read-if2
-    mul-line
-    shared-slice-read-line
-    cast-number
-    lines-less
-    lines-again
-    lines-less-2
-    lines-again-2
+    mul-wide
+    shared-slice-read-wide
+    wide-requires
+    has-requires
+    mul-t16
+    shared-slice-read-t18
+    has-requires-2
+    mul-t21
+    shared-slice-read-t23
+    names-less
+    names-again
+    names-less-2
+    names-again-2
     returns
-    returns-2)
+    returns-2
+    returns-3)

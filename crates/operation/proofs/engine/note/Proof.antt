@@ -1,0 +1,221 @@
+-- `operation::note` meets its contract. The invariant: the whole answer is what is left of it, by the laws of `Repeats`, and of the entries so far
+-- those that are named are noted, by the laws of `Noting`. Where an entry's key was noted the search for an earlier entry goes back from the entry:
+-- the key occurred where it did among those that are left.
+-- Assumes nothing.
+use Prim.Native.Nat.{ℕ, _-_, _/_, _%_, _≤_}
+use mathlib.Core.Path.{_≡_, refl, sym, ap, _∙_}
+use lib.ListN.{length, length-set, length-replicate}
+use native.Mathlib.Omega.{arith}
+use borrow.Author.Needs.{needs}
+use Rattle.operation.specs.Judge.{occurs}
+use Rattle.operation.proofs.Entries.{earlier, one-less, found, passed}
+use Rattle.operation.proofs.Repeats as R
+use Rattle.operation.proofs.Sets.{inside, set-there, clear-there, shifted, word-room, Words, empty-words, still-words}
+use Rattle.operation.proofs.Noting as N
+use Rattle.operation.proofs.engine.note.Statement.{statement}
+use Rattle.operation.proofs.engine.note.Tie as tie
+
+abbrev Inv-loop : tie.InvT-loop
+Inv-loop names table count seen at named next key word bit noted before₀ before = (before ≤ at) × (occurs key (earlier table at) ≡ occurs key (earlier table before))
+
+abbrev μ-loop : tie.MeasureT-loop
+μ-loop names table count seen at named next key word bit noted before₀ before = before
+
+abbrev Inv-parameters : tie.InvT-parameters
+Inv-parameters names table count seen₀ at₀ named₀ seen at named =
+    (named ≤ at) × (at ≤ count) × (length seen ≡ 13) × N.Notes names table seen at × N.Remains names table count named at × Words seen
+
+abbrev μ-parameters : tie.MeasureT-parameters
+μ-parameters names table count seen₀ at₀ named₀ seen at named = count - at
+
+parameters-holds : tie.Need-parameters-holds Inv-loop μ-loop Inv-parameters μ-parameters
+parameters-holds c =
+    let a = c .before .args in
+    let p = c .before .pre in
+    (search needs, search needs, ap length (p .2) ∙ length-replicate {A = ℕ} 13 0, N.none-noted (a .names .now) (a .table .now) (p .2), λ row _. R.begins row _ _, empty-words (p .2))
+
+add-next : tie.Need-add-next Inv-loop μ-loop Inv-parameters μ-parameters
+add-next c = search needs
+
+key-at-requires : tie.Need-key-at-requires Inv-loop μ-loop Inv-parameters μ-parameters
+key-at-requires c κs = search needs
+
+has-requires : tie.Need-has-requires Inv-loop μ-loop Inv-parameters μ-parameters
+has-requires c κs = search needs
+
+add-named : tie.Need-add-named Inv-loop μ-loop Inv-parameters μ-parameters
+add-named c = search needs
+
+mul-noted : tie.Need-mul-noted Inv-loop μ-loop Inv-parameters μ-parameters
+mul-noted c = let w = inside (c .before .before .before .before .before .before .args .names .now) _ (sym (c .before .has .ensures) ∙ c .if2 .taken) in omega arith
+
+element-copy-out-noted : tie.Need-element-copy-out-noted Inv-loop μ-loop Inv-parameters μ-parameters
+element-copy-out-noted c = inside (c .before .before .before .before .before .before .args .names .now) _ (sym (c .before .has .ensures) ∙ c .if2 .taken)
+
+shr-if3 : tie.Need-shr-if3 Inv-loop μ-loop Inv-parameters μ-parameters
+shr-if3 c = search needs
+
+cast-if4 : tie.Need-cast-if4 Inv-loop μ-loop Inv-parameters μ-parameters
+cast-if4 c = search needs
+
+loop-holds : tie.Need-loop-holds Inv-loop μ-loop Inv-parameters μ-parameters
+loop-holds c = (search needs, refl)
+
+sub-before : tie.Need-sub-before Inv-loop μ-loop Inv-parameters μ-parameters
+sub-before c = search needs
+
+key-at-requires-2 : tie.Need-key-at-requires-2 Inv-loop μ-loop Inv-parameters μ-parameters
+key-at-requires-2 c κs = search needs
+
+loop-less : tie.Need-loop-less Inv-loop μ-loop Inv-parameters μ-parameters
+loop-less c = search needs
+
+loop-again : tie.Need-loop-again Inv-loop μ-loop Inv-parameters μ-parameters
+loop-again c = (search needs, c .before .before .before .loop .inv .1 ∙ sym (passed (one-less _ _ (c .before .before .loop-test .taken)) (c .before .key-at2 .ensures) (c .if5 .left)))
+
+shl-seen : tie.Need-shl-seen Inv-loop μ-loop Inv-parameters μ-parameters
+shl-seen c = search needs
+
+add-seen : tie.Need-add-seen Inv-loop μ-loop Inv-parameters μ-parameters
+add-seen c =
+    let l = c .before .before .before .before .before .before .parameters in
+    let k = c .before .before .before .before .key-at .result in
+    let i = inside (c .before .before .before .before .before .before .before .before .args .names .now) k (sym (c .before .before .before .has .ensures) ∙ c .before .before .if2 .taken) in
+    rw (shifted (k % 64) (omega arith)) (let r = word-room (l .seen) k i (clear-there (l .seen) k i (c .if3 .left)) (l .inv .5 (k / 64)) in omega arith)
+
+mul-seen : tie.Need-mul-seen Inv-loop μ-loop Inv-parameters μ-parameters
+mul-seen c = let w = inside (c .before .before .before .before .before .before .before .before .args .names .now) _ (sym (c .before .before .before .has .ensures) ∙ c .before .before .if2 .taken) in omega arith
+
+element-write-seen : tie.Need-element-write-seen Inv-loop μ-loop Inv-parameters μ-parameters
+element-write-seen c = inside (c .before .before .before .before .before .before .before .before .args .names .now) _ (sym (c .before .before .before .has .ensures) ∙ c .before .before .if2 .taken)
+
+parameters-less : tie.Need-parameters-less Inv-loop μ-loop Inv-parameters μ-parameters
+parameters-less c = search needs
+
+parameters-again : tie.Need-parameters-again Inv-loop μ-loop Inv-parameters μ-parameters
+parameters-again c =
+    let a = c .before .before .before .before .before .before .before .before .before .before .before .args in
+    let l = c .before .before .before .before .before .before .before .before .before .parameters in
+    let k = c .before .before .before .before .before .before .before .key-at .ensures in
+    let h = sym (c .before .before .before .before .before .before .has .ensures) ∙ c .before .before .before .before .before .if2 .taken in
+    let w = set-there (l .seen) _ (inside (a .names .now) _ h) (c .before .before .before .if3 .taken) in (
+      search needs,
+      search needs,
+      l .inv .2,
+      N.noted-before (a .names .now) (a .table .now) (l .seen) (l .at) (l .inv .3) k w,
+      λ row m. l .inv .4 row m ∙ sym (R.fresh row (a .table .now) (a .count) (l .named) (l .at) (c .before .before .before .before .before .before .before .before .if1 .left) k (sym (sym (m _) ∙ h)) (R.not-before _ _ (a .table .now) _ (c .before .loop .inv .1) (c .loop-test .left))),
+      l .inv .5,
+    )
+
+parameters-less-2 : tie.Need-parameters-less-2 Inv-loop μ-loop Inv-parameters μ-parameters
+parameters-less-2 c = search needs
+
+parameters-again-2 : tie.Need-parameters-again-2 Inv-loop μ-loop Inv-parameters μ-parameters
+parameters-again-2 c =
+    let a = c .before .before .before .before .before .before .before .before .before .args in
+    let l = c .before .before .before .before .before .before .before .parameters in
+    let k = c .before .before .before .before .before .key-at .ensures in
+    let h = sym (c .before .before .before .before .has .ensures) ∙ c .before .before .before .if2 .taken in
+    let w = set-there (l .seen) _ (inside (a .names .now) _ h) (c .before .if3 .taken) in (
+      search needs,
+      search needs,
+      l .inv .2,
+      N.noted-before (a .names .now) (a .table .now) (l .seen) (l .at) (l .inv .3) k w,
+      λ row m. l .inv .4 row m ∙ sym (R.fresh row (a .table .now) (a .count) (l .named) (l .at) (c .before .before .before .before .before .before .if1 .left) k (sym (sym (m _) ∙ h)) (R.digits _ _ (c .if4 .left))),
+      l .inv .5,
+    )
+
+parameters-less-3 : tie.Need-parameters-less-3 Inv-loop μ-loop Inv-parameters μ-parameters
+parameters-less-3 c = search needs
+
+parameters-again-3 : tie.Need-parameters-again-3 Inv-loop μ-loop Inv-parameters μ-parameters
+parameters-again-3 c =
+    let a = c .before .before .before .before .before .before .before .before .args in
+    let l = c .before .before .before .before .before .before .parameters in
+    let k = c .before .before .before .before .key-at .ensures in
+    let h = sym (c .before .before .before .has .ensures) ∙ c .before .before .if2 .taken in
+    let i = inside (a .names .now) _ h in
+    let w = clear-there (l .seen) _ i (c .if3 .left) in (
+      search needs,
+      search needs,
+      length-set (l .seen) _ _ ∙ l .inv .2,
+      rw (shifted (c .before .before .before .before .key-at .result % 64) (omega arith)) (N.noted-now (a .names .now) (a .table .now) (l .seen) (l .at) (l .inv .3) k h i w (l .inv .2)),
+      λ row m. l .inv .4 row m ∙ sym (R.fresh row (a .table .now) (a .count) (l .named) (l .at) (c .before .before .before .before .before .if1 .left) k (sym (sym (m _) ∙ h)) (N.not-before (a .names .now) (a .table .now) (l .seen) (l .at) (l .inv .3) k h i w)),
+      rw (shifted (c .before .before .before .before .key-at .result % 64) (omega arith)) (still-words (l .seen) _ i w (l .inv .2) (l .inv .5)),
+    )
+
+parameters-less-4 : tie.Need-parameters-less-4 Inv-loop μ-loop Inv-parameters μ-parameters
+parameters-less-4 c = search needs
+
+parameters-again-4 : tie.Need-parameters-again-4 Inv-loop μ-loop Inv-parameters μ-parameters
+parameters-again-4 c =
+    let a = c .before .before .before .before .before .before .args in
+    let l = c .before .before .before .before .parameters in
+    let k = c .before .before .key-at .ensures in
+    let h = sym (c .before .has .ensures) ∙ c .if2 .left in (
+      search needs,
+      search needs,
+      l .inv .2,
+      N.unnamed (a .names .now) (a .table .now) (l .seen) (l .at) (l .inv .3) k h,
+      λ row m. l .inv .4 row m ∙ sym (R.unnamed row (a .table .now) (a .count) (l .named) (l .at) (c .before .before .before .if1 .left) k (sym (sym (m _) ∙ h))),
+      l .inv .5,
+    )
+
+returns : tie.Need-returns Inv-loop μ-loop Inv-parameters μ-parameters
+returns c =
+    let a = c .before .before .before .args in
+    let l = c .before .parameters in
+    record {
+      counted = λ row m. R.ends row (a .table .now) (a .count) (l .named) (l .at) (c .if1 .taken) ∙ sym (l .inv .4 row m);
+      noted = N.all-noted (a .names .now) (a .table .now) (l .seen) (l .at) (l .inv .3) (l .inv .1) (c .if1 .taken);
+    }
+
+returns-2 : tie.Need-returns-2 Inv-loop μ-loop Inv-parameters μ-parameters
+returns-2 c =
+    let a = c .before .before .before .before .before .before .before .before .before .before .before .before .before .args in
+    let l = c .before .before .before .before .before .before .before .before .before .before .before .parameters in
+    let k = c .before .before .before .before .before .before .before .before .before .key-at .ensures in
+    let h = sym (c .before .before .before .before .before .before .before .before .has .ensures) ∙ c .before .before .before .before .before .before .before .if2 .taken in
+    record {
+      counted = λ row m. R.again row (a .table .now) (a .count) (l .named) (l .at) (c .before .before .before .before .before .before .before .before .before .before .if1 .left) k (sym (sym (m _) ∙ h)) (R.not-digits _ (c .before .before .before .before .if4 .taken))
+          (found (one-less _ _ (c .before .before .loop-test .taken)) (c .before .key-at2 .ensures) (c .if5 .taken) ∙ sym (c .before .before .before .loop .inv .1))
+          ∙ sym (l .inv .4 row m);
+      noted = λ _ _. tt;
+    }
+
+pub note-spec : {M : Type 1} → statement M
+note-spec =
+    tie.close
+    (tie.spec
+    Inv-loop
+    μ-loop
+    Inv-parameters
+    μ-parameters
+    parameters-holds
+    add-next
+    key-at-requires
+    has-requires
+    add-named
+    mul-noted
+    element-copy-out-noted
+    shr-if3
+    cast-if4
+    loop-holds
+    sub-before
+    key-at-requires-2
+    loop-less
+    loop-again
+    shl-seen
+    add-seen
+    mul-seen
+    element-write-seen
+    parameters-less
+    parameters-again
+    parameters-less-2
+    parameters-again-2
+    parameters-less-3
+    parameters-again-3
+    parameters-less-4
+    parameters-again-4
+    returns
+    returns-2)
