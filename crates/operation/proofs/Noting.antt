@@ -48,9 +48,9 @@ module _ (names t : List ℕ) where
   abbrev pub Remains : (count named at : ℕ) → Type 0
   Remains count n at = (row : Row) → Names row names → onceCounted row (itemsFrom t 0 count) ≡ left row t count n at
 
-  pub none-noted : {seen : List ℕ} → seen ≡ replicate 13 0 → Notes seen 0
+  pub none-noted : Notes (replicate 13 0) 0
   unfolding earlier occurs
-  none-noted e k = rw e (empty k) ∙ sym (and-false (holds names k))
+  none-noted k = empty k ∙ sym (and-false (holds names k))
 
   module _ (seen : List ℕ) (at : ℕ) (n : Notes seen at) where
     pub all-noted : {count : ℕ} → at ≤ count → count ≤ at → (row : Row) → Names row names → (k : ℕ) → holds seen k ≡ (named row k && occurs k (itemsFrom t 0 count))
@@ -76,12 +76,12 @@ module _ (names t : List ℕ) where
           by j true e = rw (← eqb-true k j e, each (holds names k) _ (sym (n k) ∙ h) .0, h)
           by j false e = n j
 
-      module _ (m : holds names k ≡ true) (l : k / 64 < 13) (h : holds seen k ≡ false) where
+      module _ (m : holds names k ≡ true) (h : holds seen k ≡ false) where
         pub not-before : (not (repeats k) && occurs k (earlier t at)) ≡ false
         not-before = let o : occurs k (earlier t at) ≡ false = sym (rw m) ∙ sym (n k) ∙ h in rw o (and-false (not (repeats k)))
 
-        pub noted-now : length seen ≡ 13 → Notes (set seen (k / 64) (getD seen (k / 64) 0 + 2 ^ (k % 64))) (at + 1)
-        noted-now w = step (set seen (k / 64) (getD seen (k / 64) 0 + 2 ^ (k % 64))) λ j. one-more seen k l h w j ∙ by j (eqb k j) refl
+        pub noted-now : k / 64 < length seen → Notes (set seen (k / 64) (getD seen (k / 64) 0 + 2 ^ (k % 64))) (at + 1)
+        noted-now l = step (set seen (k / 64) (getD seen (k / 64) 0 + 2 ^ (k % 64))) λ j. one-more seen k h l j ∙ by j (eqb k j) refl
           where
             by : (j : ℕ) (t₁ : Bool) → eqb k j ≡ t₁ → (eqb j k || holds seen j) ≡ (holds names j && (t₁ || occurs j (earlier t at)))
             by j true e = rw (← eqb-true k j e, self k, m)

@@ -2,12 +2,12 @@
 -- Assumes nothing.
 use Prim.Native.Nat.{ℕ, zero, suc, _+_, _*_, _/_, _%_, _^_, _<_, _≤_}
 use mathlib.Core.Path.{_≡_, refl, sym, ap, _∙_}
-use mathlib.Core.Bool.{Bool, true, false, _&&_, _||_, not, and-false}
+use mathlib.Core.Bool.{Bool, true, false, _&&_, _||_, not, true≢false}
 use mathlib.Core.List.{List, [], _∷_}
-use lib.ListN.{length, getD, set, replicate}
+use lib.ListN.{length, getD, set, replicate, List·getD-eq-default}
 use lib.Seq.{getD-set-same, getD-set-other}
 use lib.Dec.{eqb, ltb}
-use borrow.Author.Tests.{eq-eqb, ne-eqb, eqb-true, eqb-false, not-true, ltb-true, ltb-false, lt-ltb, le-ltb}
+use borrow.Author.Tests.{eq-eqb, ne-eqb, eqb-true, eqb-false, not-true, ltb-true, ltb-false}
 use lib.Pow.{pow-lt}
 use native.Mathlib.Omega.{arith}
 use native.Mathlib.Nat.{pow-suc, pow-succ', zero-add, add-zero, add-comm, one-mul, mod-eq-of-lt, div-div-eq-div-mul}
@@ -99,64 +99,68 @@ zeros (suc n) (suc i) = zeros n i
 
 pub empty : (k : ℕ) → holds (replicate 13 0) k ≡ false
 unfolding holds
-empty k = ap (λ w. ltb (k / 64) 13 && bit w (k % 64)) (zeros 13 (k / 64)) ∙ ap (λ t. ltb (k / 64) 13 && t) (no-bit (k % 64)) ∙ and-false (ltb (k / 64) 13)
+empty k = ap (λ w. bit w (k % 64)) (zeros 13 (k / 64)) ∙ no-bit (k % 64)
 
 -- words of 64 bits
 abbrev pub Words : List ℕ → Type 0
 Words s = (i : ℕ) → getD s i 0 < 2 ^ 64
 
-pub empty-words : {s : List ℕ} → s ≡ replicate 13 0 → Words s
-empty-words e i = rw (e, zeros 13 i) (omega arith)
+pub empty-words : Words (replicate 13 0)
+empty-words i = rw (zeros 13 i) (omega arith)
 
 module _ (s : List ℕ) (k : ℕ) where
   -- beyond the words there is no key
-  pub beyond : 13 ≤ k / 64 → holds s k ≡ false
+  pub beyond : length s ≤ k / 64 → holds s k ≡ false
   unfolding holds
-  beyond h = rw (le-ltb (k / 64) 13 h)
+  beyond h = rw (List·getD-eq-default s 0 h) (no-bit (k % 64))
 
-  pub inside : holds s k ≡ true → k / 64 < 13
-  unfolding holds
-  inside h = ltb-true (k / 64) 13 (each (ltb (k / 64) 13) _ h .0)
-
-  pub within : k / 64 < 13 → bit (getD s (k / 64) 0) (k % 64) ≡ holds s k
-  unfolding holds
-  within h = rw (lt-ltb (k / 64) 13 h)
+  pub inside : holds s k ≡ true → k / 64 < length s
+  inside h = by (ltb (k / 64) (length s)) refl
+    where
+      by : (t : Bool) → ltb (k / 64) (length s) ≡ t → k / 64 < length s
+      by true e = ltb-true (k / 64) (length s) e
+      by false e = absurd (true≢false (sym h ∙ beyond (ltb-false (k / 64) (length s) e)))
 
   -- by the code's test of a bit
-  module _ (h : k / 64 < 13) where
-    pub set-there : getD s (k / 64) 0 / 2 ^ (k % 64) % 2 ≡ 1 → holds s k ≡ true
-    unfolding bit
-    set-there e = sym (within h) ∙ eq-eqb _ _ e
+  pub within : eqb (getD s (k / 64) 0 / 2 ^ (k % 64) % 2) 1 ≡ holds s k
+  unfolding holds bit
+  within = refl
 
-    pub clear-there : (getD s (k / 64) 0 / 2 ^ (k % 64) % 2 ≡ 1 → ⊥) → holds s k ≡ false
-    unfolding bit
-    clear-there e = sym (within h) ∙ ne-eqb _ _ e
+  pub set-there : getD s (k / 64) 0 / 2 ^ (k % 64) % 2 ≡ 1 → holds s k ≡ true
+  set-there e = sym within ∙ eq-eqb _ _ e
 
-module _ (s : List ℕ) (j : ℕ) (l : j / 64 < 13) (h : holds s j ≡ false) where
-  pub word-room : getD s (j / 64) 0 < 2 ^ 64 → getD s (j / 64) 0 + 2 ^ (j % 64) < 2 ^ 64
-  word-room m = bit-room (getD s (j / 64) 0) (j % 64) (within s j l ∙ h) (omega arith) m
+  pub clear-there : (getD s (k / 64) 0 / 2 ^ (k % 64) % 2 ≡ 1 → ⊥) → holds s k ≡ false
+  clear-there e = sym within ∙ ne-eqb _ _ e
 
-  pub still-words : length s ≡ 13 → Words s → Words (set s (j / 64) (getD s (j / 64) 0 + 2 ^ (j % 64)))
-  still-words n w i = by (eqb (j / 64) i) refl
-    where
-      by : (t : Bool) → eqb (j / 64) i ≡ t → getD (set s (j / 64) (getD s (j / 64) 0 + 2 ^ (j % 64))) i 0 < 2 ^ 64
-      by true e = rw (← eqb-true (j / 64) i e, getD-set-same s (j / 64) (getD s (j / 64) 0 + 2 ^ (j % 64)) 0 (omega arith)) (word-room (w (j / 64)))
-      by false e = rw (getD-set-other s (j / 64) i (getD s (j / 64) 0 + 2 ^ (j % 64)) 0 (λ f. eqb-false (j / 64) i e (sym f))) (w i)
-
-  pub one-more : length s ≡ 13 → (k : ℕ) → holds (set s (j / 64) (getD s (j / 64) 0 + 2 ^ (j % 64))) k ≡ (eqb k j || holds s k)
+module _ (s : List ℕ) (j : ℕ) (h : holds s j ≡ false) where
+  clear-bit : bit (getD s (j / 64) 0) (j % 64) ≡ false
   unfolding holds
-  one-more n k = by (eqb (k / 64) (j / 64)) refl
-    where
-      by : (t : Bool) → eqb (k / 64) (j / 64) ≡ t →
-          (ltb (k / 64) 13 && bit (getD (set s (j / 64) (getD s (j / 64) 0 + 2 ^ (j % 64))) (k / 64) 0) (k % 64)) ≡
-          (eqb k j || (ltb (k / 64) 13 && bit (getD s (k / 64) 0) (k % 64)))
-      by true e =
-          let f = eqb-true (k / 64) (j / 64) e in
-          rw (f, lt-ltb (j / 64) 13 l, getD-set-same s (j / 64) (getD s (j / 64) 0 + 2 ^ (j % 64)) 0 (omega arith), ← same-bit j k f)
-          (bit-added (getD s (j / 64) 0) (j % 64) (within s j l ∙ h) (k % 64))
-      by false e =
-          let n = eqb-false (k / 64) (j / 64) e in
-          rw (getD-set-other s (j / 64) (k / 64) (getD s (j / 64) 0 + 2 ^ (j % 64)) 0 n, other-word j k n)
+  clear-bit = h
+
+  pub word-room : getD s (j / 64) 0 < 2 ^ 64 → getD s (j / 64) 0 + 2 ^ (j % 64) < 2 ^ 64
+  word-room m = bit-room (getD s (j / 64) 0) (j % 64) clear-bit (omega arith) m
+
+  module _ (l : j / 64 < length s) where
+    pub still-words : Words s → Words (set s (j / 64) (getD s (j / 64) 0 + 2 ^ (j % 64)))
+    still-words w i = by (eqb (j / 64) i) refl
+      where
+        by : (t : Bool) → eqb (j / 64) i ≡ t → getD (set s (j / 64) (getD s (j / 64) 0 + 2 ^ (j % 64))) i 0 < 2 ^ 64
+        by true e = rw (← eqb-true (j / 64) i e, getD-set-same s (j / 64) (getD s (j / 64) 0 + 2 ^ (j % 64)) 0 l) (word-room (w (j / 64)))
+        by false e = rw (getD-set-other s (j / 64) i (getD s (j / 64) 0 + 2 ^ (j % 64)) 0 (λ f. eqb-false (j / 64) i e (sym f))) (w i)
+
+    pub one-more : (k : ℕ) → holds (set s (j / 64) (getD s (j / 64) 0 + 2 ^ (j % 64))) k ≡ (eqb k j || holds s k)
+    unfolding holds
+    one-more k = by (eqb (k / 64) (j / 64)) refl
+      where
+        by : (t : Bool) → eqb (k / 64) (j / 64) ≡ t →
+            bit (getD (set s (j / 64) (getD s (j / 64) 0 + 2 ^ (j % 64))) (k / 64) 0) (k % 64) ≡ (eqb k j || bit (getD s (k / 64) 0) (k % 64))
+        by true e =
+            let f = eqb-true (k / 64) (j / 64) e in
+            rw (f, getD-set-same s (j / 64) (getD s (j / 64) 0 + 2 ^ (j % 64)) 0 l, ← same-bit j k f)
+            (bit-added (getD s (j / 64) 0) (j % 64) clear-bit (k % 64))
+        by false e =
+            let n = eqb-false (k / 64) (j / 64) e in
+            rw (getD-set-other s (j / 64) (k / 64) (getD s (j / 64) 0 + 2 ^ (j % 64)) 0 n, other-word j k n)
 
 -- ---- the words of a row
 
@@ -167,20 +171,21 @@ module _ (js : List ℕ) (j k : ℕ) (has : (k : ℕ) → bit (wordOf js (k / 64
       rw (add-comm (2 ^ (j % 64)) (wordOf js (k / 64)), f, bit-added (wordOf js (j / 64)) (j % 64) (has j ∙ n) (k % 64), same-bit j k f) (ap (λ t. eqb k j || t) (rw (← f) (has k)))
   one-key false e = rw (zero-add (wordOf js (k / 64)), other-word j k (λ f. eqb-false (j / 64) (k / 64) e (sym f))) (has k)
 
-word-has : (ks : List ℕ) → apart ks ≡ true → (k : ℕ) → bit (wordOf ks (k / 64)) (k % 64) ≡ among ks k
-unfolding wordOf among apart
-word-has [] h k = no-bit (k % 64)
-word-has (j ∷ js) h k =
-    let (o, p) = each (ltb j 832 && not (among js j)) _ h in
-    one-key js j k (word-has js p) (not-true (among js j) (each (ltb j 832) _ o .1)) (eqb (j / 64) (k / 64)) refl
+module _ (m : ℕ) where
+  word-has : (ks : List ℕ) → apart m ks ≡ true → (k : ℕ) → bit (wordOf ks (k / 64)) (k % 64) ≡ among ks k
+  unfolding wordOf among apart
+  word-has [] h k = no-bit (k % 64)
+  word-has (j ∷ js) h k =
+      let (o, p) = each (ltb (j / 64) m && not (among js j)) _ h in
+      one-key js j k (word-has js p) (not-true (among js j) (each (ltb (j / 64) m) _ o .1)) (eqb (j / 64) (k / 64)) refl
 
-small : (ks : List ℕ) → apart ks ≡ true → (k : ℕ) → 832 ≤ k → among ks k ≡ false
-unfolding among apart
-small [] h k l = refl
-small (j ∷ js) h k l =
-    let (o, p) = each (ltb j 832 && not (among js j)) _ h in
-    let m = ltb-true j 832 (each (ltb j 832) _ o .0) in
-    rw (ne-eqb k j (λ e. omega arith)) (small js p k l)
+  small : (ks : List ℕ) → apart m ks ≡ true → (k : ℕ) → m ≤ k / 64 → among ks k ≡ false
+  unfolding among apart
+  small [] h k l = refl
+  small (j ∷ js) h k l =
+      let (o, p) = each (ltb (j / 64) m && not (among js j)) _ h in
+      let i = ltb-true (j / 64) m (each (ltb (j / 64) m) _ o .0) in
+      rw (other-word j k (λ e. omega arith)) (small js p k l)
 
 from : (ks : List ℕ) (i n d : ℕ) → d < n → getD (wordsFrom ks i n) d 0 ≡ wordOf ks (i + d)
 unfolding wordsFrom
@@ -199,15 +204,16 @@ names (must j ∷ ls) k = rw (names ls k)
 names (oneOf i j ∷ ls) k = rw (names ls k) (sym (or-assoc (eqb k i) (eqb k j) (named ls k)))
 names (may j ∷ ls) k = rw (names ls k)
 
-pub row-names : (row : Row) → apart (keysIn row) ≡ true → Names row (wordsOf row)
-unfolding wordsOf
-row-names row h k = by (ltb (k / 64) 13) refl ∙ names row k
+pub row-names : (row : Row) {set : List ℕ} → set ≡ wordsOf row (length set) → apart (length set) (keysIn row) ≡ true → Names row set
+unfolding wordsOf holds
+row-names row {set} w h k = by (ltb (k / 64) (length set)) refl ∙ names row k
   where
-    by : (t : Bool) → ltb (k / 64) 13 ≡ t → holds (wordsFrom (keysIn row) 0 13) k ≡ among (keysIn row) k
+    by : (t : Bool) → ltb (k / 64) (length set) ≡ t → bit (getD set (k / 64) 0) (k % 64) ≡ among (keysIn row) k
     by true e =
-        let l = ltb-true (k / 64) 13 e in
-        sym (within (wordsFrom (keysIn row) 0 13) k l)
-        ∙ ap (λ w. bit w (k % 64)) (from (keysIn row) 0 13 (k / 64) l ∙ ap (wordOf (keysIn row)) (zero-add (k / 64))) ∙ word-has (keysIn row) h k
+        let l = ltb-true (k / 64) (length set) e in
+        ap (λ s. bit (getD s (k / 64) 0) (k % 64)) w
+        ∙ ap (λ w. bit w (k % 64)) (from (keysIn row) 0 (length set) (k / 64) l ∙ ap (wordOf (keysIn row)) (zero-add (k / 64)))
+        ∙ word-has (length set) (keysIn row) h k
     by false e =
-        let l = ltb-false (k / 64) 13 e in
-        beyond (wordsFrom (keysIn row) 0 13) k l ∙ sym (small (keysIn row) h k (omega arith))
+        let l = ltb-false (k / 64) (length set) e in
+        beyond set k l ∙ sym (small (length set) (keysIn row) h k l)

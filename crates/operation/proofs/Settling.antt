@@ -4,6 +4,7 @@ use Prim.Native.Nat.{ℕ}
 use mathlib.Core.Path.{_≡_, sym, ap, subst, _∙_}
 use mathlib.Core.Bool.{true, false, _&&_, and-false}
 use mathlib.Core.List.{List}
+use lib.ListN.{length}
 use lib.Dec.{eqb}
 use Rattle.element.specs.Answer.{accepted, refused}
 use Rattle.operation.specs.Row.{Row, Item, oneOf, named}
@@ -49,8 +50,6 @@ module _ (row : Row) (list : List ℕ) (one other : ℕ) (seen : List ℕ) (xs :
 
 -- ---- the walk and what settles it, over what the code holds of a row
 pub settled : (row : Row) {names list seen : List ℕ} {one other : ℕ} {xs : List Item} {noted : R.Repeat} {r : J.Judged} →
-    names ≡ wordsOf row → apart (keysIn row) ≡ true → Asks row list one other →
+    names ≡ wordsOf row (length names) → apart (length names) (keysIn row) ≡ true → Asks row list one other →
     Walked noted names seen xs → Settles noted r list one other seen xs → judgedIn r ≡ judgement row xs
-settled row e h a w s =
-    let n : Names row _ = subst (Names row) (sym e) (row-names row h) in
-    s .judged row a (w .counted row n) (w .noted row n)
+settled row e h a w s = let n = row-names row e h in s .judged row a (w .counted row n) (w .noted row n)

@@ -14,12 +14,12 @@ use Rattle.operation.specs.Row.{Row, must, oneOf, may, Item, key, named}
 use Rattle.operation.specs.Judge.{judge, countNamed}
 use Rattle.operation.specs.Finding.{rowOf}
 
--- ---- what a row names, as a set of keys: one bit for each, 64 to a word, 13 words
+-- ---- what a row names, as a set of keys: one bit for each, 64 to a word; a key beyond the words is not in it
 unfoldable pub bit : (word b : ℕ) → Bool
 bit w b = eqb (w / 2 ^ b % 2) 1
 
 unfoldable pub holds : (set : List ℕ) → ℕ → Bool
-holds set k = ltb (k / 64) 13 && bit (getD set (k / 64) 0) (k % 64)
+holds set k = bit (getD set (k / 64) 0) (k % 64)
 
 abbrev pub Names : Row → (set : List ℕ) → Type 0
 Names row set = (k : ℕ) → holds set k ≡ named row k
@@ -38,17 +38,18 @@ unfoldable pub wordsFrom : List ℕ → (i n : ℕ) → List ℕ
 wordsFrom ks i zero = []
 wordsFrom ks i (suc n) = wordOf ks i ∷ wordsFrom ks (i + 1) n
 
-unfoldable pub wordsOf : Row → List ℕ
-wordsOf row = wordsFrom (keysIn row) 0 13
+-- the first `n` words of a row
+unfoldable pub wordsOf : Row → (n : ℕ) → List ℕ
+wordsOf row n = wordsFrom (keysIn row) 0 n
 
--- no key twice, and none beyond the words: else the sums are not the row's
+-- no key twice, and none beyond `n` words: else the sums are not the row's
 unfoldable pub among : List ℕ → ℕ → Bool
 among [] k = false
 among (j ∷ js) k = eqb k j || among js k
 
-unfoldable pub apart : List ℕ → Bool
-apart [] = true
-apart (k ∷ ks) = (ltb k 832 && not (among ks k)) && apart ks
+unfoldable pub apart : (n : ℕ) → List ℕ → Bool
+apart n [] = true
+apart n (k ∷ ks) = (ltb (k / 64) n && not (among ks k)) && apart n ks
 
 -- ---- what it asks for, in its order: of a choice the first key, and the other will do; no choice is of a key with itself
 unfoldable pub mustOf : Row → List ℕ

@@ -1,11 +1,12 @@
 // The judgement of a row over a table of entries: 12, 13 and 14, in their order.
 use super::Judged;
 use super::Missing;
+use super::Notes;
 use super::Repeat;
 use super::rows::DIGITS;
 ghost use mathlib.Core.Path.{_≡_};
 ghost use Prim.Native.Nat.{_+_, _*_, _<_, _≤_};
-ghost use lib.ListN.{length, replicate};
+ghost use lib.ListN.{length};
 ghost use Rattle.operation.specs.Row.{oneOf};
 ghost use Rattle.operation.specs.Judge.{lastMark};
 ghost use Rattle.operation.specs.Coded.{holds, itemAt, itemsFrom};
@@ -30,11 +31,11 @@ fn key_at(table: &[u16], entry: usize) -> u64
 }
 
 // Whether a key is in a set: one bit for each key, 64 to a word.
-fn has(set: &[u64; 13], key: u64) -> bool
+fn has(set: &[u64], key: u64) -> bool
     ensures { λ r. ⌜ r ≡ holds (now (set .entry)) key ⌝ }
 {
     let word = (key / 64) as usize;
-    if word < 13 {
+    if word < set.len() {
         return (set[word] >> (key % 64)) % 2 == 1;
     }
     false
@@ -66,13 +67,14 @@ fn last_of(one: u64, other: u64, table: &[u16], count: usize) -> usize
 
 // 12: the first entry that occurred before, of those that the row names and may not repeat. Each that the row names is
 // noted, and one that is not noted did not occur before.
-pub(crate) fn note(names: &[u64; 13], table: &[u16], count: usize, seen: &mut [u64; 13]) -> Repeat
-    requires { ⌜ (4 * count ≤ length (now table)) × (count ≤ 64) × (now seen ≡ replicate 13 0) ⌝ }
-    ensures { λ r. ⌜ Walked r (now (names .entry)) (now (seen .exit)) (itemsFrom (now (table .entry)) 0 count) ⌝ }
+pub(crate) fn note(names: &[u64], table: &[u16], count: usize) -> Notes
+    requires { ⌜ (4 * count ≤ length (now table)) × (count ≤ 64) × (length (now names) ≤ 13) ⌝ }
+    ensures { λ r. ⌜ Walked (r .repeat) (now (names .entry)) (r .seen) (itemsFrom (now (table .entry)) 0 count) ⌝ }
 {
+    let mut seen = [0u64; 13];
     let mut at: usize = 0;
     let mut named: usize = 0;
-    let answer = 'parameters: loop {
+    let repeat = 'parameters: loop {
         if count <= at {
             break 'parameters Repeat::None { named };
         }
@@ -99,11 +101,11 @@ pub(crate) fn note(names: &[u64; 13], table: &[u16], count: usize, seen: &mut [u
         }
         at = next;
     };
-    answer
+    Notes { repeat, seen }
 }
 
 // 13: the first that must occur and was not noted. Of a choice `one` stands in the list, and the other will do.
-fn first_missing(must: &[u16], one: u64, other: u64, seen: &[u64; 13]) -> Missing
+fn first_missing(must: &[u16], one: u64, other: u64, seen: &[u64]) -> Missing
     ensures { λ r. ⌜ missingIn r ≡ lacking (now (must .entry)) one other (now (seen .entry)) ⌝ }
 {
     let mut at: usize = 0;
@@ -133,20 +135,21 @@ pub(crate) fn settle(
     other: u64,
     table: &[u16],
     count: usize,
-    seen: &[u64; 13],
-    noted: Repeat,
+    notes: Notes,
 ) -> Judged
     requires { ⌜ (4 * count ≤ length (now table)) × (count ≤ 64) ⌝ }
-    ensures { λ r. ⌜ Settles noted r (now (must .entry)) one other (now (seen .entry)) (itemsFrom (now (table .entry)) 0 count) ⌝ }
+    ensures { λ r. ⌜ Settles (notes .repeat) r (now (must .entry)) one other (notes .seen) (itemsFrom (now (table .entry)) 0 count) ⌝ }
 {
-    match noted {
+    let seen = notes.seen;
+    let repeat = notes.repeat;
+    match repeat {
         Repeat::At(entry) => Judged::Again(entry),
-        Repeat::None { named } => match first_missing(must, one, other, seen) {
+        Repeat::None { named } => match first_missing(must, one, other, &seen) {
             Missing::Number(number) => Judged::Missing(number),
             Missing::None => {
                 if one != other {
-                    if has(seen, one) {
-                        if has(seen, other) {
+                    if has(&seen, one) {
+                        if has(&seen, other) {
                             return Judged::Both(last_of(one, other, table, count));
                         }
                     }

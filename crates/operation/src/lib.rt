@@ -66,6 +66,12 @@ enum Repeat {
     At(usize),
 }
 
+// What a walk over the parameters found, and the keys that it noted.
+struct Notes {
+    repeat: Repeat,
+    seen: [u64; 13],
+}
+
 // What must occur and does not.
 enum Missing {
     None,

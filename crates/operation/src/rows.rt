@@ -55,44 +55,18 @@ const HANDOFF_BACK_MUST: [u16; 5] = [
     TARGET_CELL_ID,
 ];
 
-const HANDOFF_BACK_NAMES: [u64; 13] = [
+const HANDOFF_BACK_NAMES: [u64; 1] = [
     names::CHANNEL_DATA
         + names::INTER_MSC_CIRCUIT_ID
         + names::MIN
         + names::SERVING_CELL_ID
         + names::TARGET_CELL_ID
         + names::BILLING_ID,
-    0,
-    0,
-    0,
-    0,
-    0,
-    0,
-    0,
-    0,
-    0,
-    0,
-    0,
-    0,
 ];
 
 const HANDOFF_BACK_RESULT_MUST: [u16; 1] = [CHANNEL_DATA];
 
-const HANDOFF_BACK_RESULT_NAMES: [u64; 13] = [
-    names::CHANNEL_DATA,
-    0,
-    0,
-    0,
-    0,
-    0,
-    0,
-    0,
-    0,
-    0,
-    0,
-    0,
-    0,
-];
+const HANDOFF_BACK_RESULT_NAMES: [u64; 1] = [names::CHANNEL_DATA];
 
 const REGISTRATION_NOTIFICATION_MUST: [u16; 5] = [
     ESN,
@@ -102,7 +76,7 @@ const REGISTRATION_NOTIFICATION_MUST: [u16; 5] = [
     SYSTEM_MY_TYPE_CODE,
 ];
 
-const REGISTRATION_NOTIFICATION_NAMES: [u64; 13] = [
+const REGISTRATION_NOTIFICATION_NAMES: [u64; 8] = [
     names::ESN
         + names::MIN
         + names::MSCID
@@ -115,60 +89,32 @@ const REGISTRATION_NOTIFICATION_NAMES: [u64; 13] = [
     0,
     0,
     names::IMSI,
-    0,
-    0,
-    0,
-    0,
-    0,
 ];
 
 const REGISTRATION_NOTIFICATION_RESULT_MUST: [u16; 1] = [SYSTEM_MY_TYPE_CODE];
 
-const REGISTRATION_NOTIFICATION_RESULT_NAMES: [u64; 13] = [
-    names::SYSTEM_MY_TYPE_CODE,
-    0,
-    0,
-    0,
-    0,
-    0,
-    0,
-    0,
-    0,
-    0,
-    0,
-    0,
-    0,
-];
+const REGISTRATION_NOTIFICATION_RESULT_NAMES: [u64; 1] = [names::SYSTEM_MY_TYPE_CODE];
 
 const REGISTRATION_CANCELLATION_RESULT_MUST: [u16; 0] = [];
 
-const REGISTRATION_CANCELLATION_RESULT_NAMES: [u64; 13] = [0, 0, 0, 0, 0, 0, 0, 0, 0, 0, 0, 0, 0];
+const REGISTRATION_CANCELLATION_RESULT_NAMES: [u64; 0] = [];
 
 const LOCATION_REQUEST_MUST: [u16; 4] = [BILLING_ID, DIGITS, MSCID, SYSTEM_MY_TYPE_CODE];
 
-const LOCATION_REQUEST_NAMES: [u64; 13] = [
+const LOCATION_REQUEST_NAMES: [u64; 4] = [
     names::BILLING_ID + names::DIGITS + names::MSCID + names::SYSTEM_MY_TYPE_CODE,
     names::PC_SSN,
     0,
     names::TRANSACTION_CAPABILITY,
-    0,
-    0,
-    0,
-    0,
-    0,
-    0,
-    0,
-    0,
-    0,
 ];
 
 const FLASH_REQUEST_RESULT_MUST: [u16; 0] = [];
 
-const FLASH_REQUEST_RESULT_NAMES: [u64; 13] = [0, 0, 0, 0, 0, 0, 0, 0, 0, 0, 0, 0, 0];
+const FLASH_REQUEST_RESULT_NAMES: [u64; 0] = [];
 
 const INTER_SYSTEM_PAGE_MUST: [u16; 3] = [BILLING_ID, ESN, MIN];
 
-const INTER_SYSTEM_PAGE_NAMES: [u64; 13] = [
+const INTER_SYSTEM_PAGE_NAMES: [u64; 8] = [
     names::BILLING_ID + names::ESN + names::MIN + names::MSCID + names::SYSTEM_MY_TYPE_CODE,
     names::PC_SSN,
     0,
@@ -177,16 +123,11 @@ const INTER_SYSTEM_PAGE_NAMES: [u64; 13] = [
     0,
     0,
     names::IMSI,
-    0,
-    0,
-    0,
-    0,
-    0,
 ];
 
 const HANDOFF_BACK2_MUST: [u16; 3] = [BILLING_ID, INTER_MSC_CIRCUIT_ID, SERVING_CELL_ID];
 
-const HANDOFF_BACK2_NAMES: [u64; 13] = [
+const HANDOFF_BACK2_NAMES: [u64; 8] = [
     names::BILLING_ID + names::INTER_MSC_CIRCUIT_ID + names::SERVING_CELL_ID,
     0,
     0,
@@ -195,34 +136,15 @@ const HANDOFF_BACK2_NAMES: [u64; 13] = [
     0,
     0,
     names::IMSI,
-    0,
-    0,
-    0,
-    0,
-    0,
 ];
 
 const ANALYZED_INFORMATION_RESULT_MUST: [u16; 0] = [];
 
-const ANALYZED_INFORMATION_RESULT_NAMES: [u64; 13] = [
-    names::DIGITS,
-    0,
-    0,
-    0,
-    0,
-    0,
-    0,
-    0,
-    0,
-    0,
-    0,
-    0,
-    0,
-];
+const ANALYZED_INFORMATION_RESULT_NAMES: [u64; 1] = [names::DIGITS];
 
 const INTER_SYSTEM_SMS_PAGE_MUST: [u16; 2] = [SMS_BEARER_DATA, SMS_TELESERVICE_IDENTIFIER];
 
-const INTER_SYSTEM_SMS_PAGE_NAMES: [u64; 13] = [
+const INTER_SYSTEM_SMS_PAGE_NAMES: [u64; 8] = [
     names::MIN + names::ESN,
     0,
     0,
@@ -231,29 +153,16 @@ const INTER_SYSTEM_SMS_PAGE_NAMES: [u64; 13] = [
     0,
     0,
     names::IMSI,
-    0,
-    0,
-    0,
-    0,
-    0,
 ];
 
 const INTER_SYSTEM_SMS_PAGE_RESULT_MUST: [u16; 0] = [];
 
-const INTER_SYSTEM_SMS_PAGE_RESULT_NAMES: [u64; 13] = [
+const INTER_SYSTEM_SMS_PAGE_RESULT_NAMES: [u64; 5] = [
     0,
     0,
     0,
     names::SMS_BEARER_DATA,
     names::SMS_CAUSE_CODE,
-    0,
-    0,
-    0,
-    0,
-    0,
-    0,
-    0,
-    0,
 ];
 
 // ---- the row of an operation
@@ -268,44 +177,39 @@ fn judge_invoke(specifier: u8, table: &[u16], count: usize) -> Judged
         4 => {
             let names = HANDOFF_BACK_NAMES;
             let must = HANDOFF_BACK_MUST;
-            let mut seen = [0u64; 13];
-            let noted = note(&names, table, count, &mut seen);
-            settle(&must, 0, 0, table, count, &seen, noted)
+            settle(&must, 0, 0, table, count, note(&names, table, count))
         }
         13 => {
             let names = REGISTRATION_NOTIFICATION_NAMES;
             let must = REGISTRATION_NOTIFICATION_MUST;
-            let mut seen = [0u64; 13];
-            let noted = note(&names, table, count, &mut seen);
-            settle(&must, MIN as u64, IMSI as u64, table, count, &seen, noted)
+            settle(
+                &must,
+                MIN as u64,
+                IMSI as u64,
+                table,
+                count,
+                note(&names, table, count),
+            )
         }
         15 => {
             let names = LOCATION_REQUEST_NAMES;
             let must = LOCATION_REQUEST_MUST;
-            let mut seen = [0u64; 13];
-            let noted = note(&names, table, count, &mut seen);
-            settle(&must, 0, 0, table, count, &seen, noted)
+            settle(&must, 0, 0, table, count, note(&names, table, count))
         }
         32 => {
             let names = INTER_SYSTEM_PAGE_NAMES;
             let must = INTER_SYSTEM_PAGE_MUST;
-            let mut seen = [0u64; 13];
-            let noted = note(&names, table, count, &mut seen);
-            settle(&must, 0, 0, table, count, &seen, noted)
+            settle(&must, 0, 0, table, count, note(&names, table, count))
         }
         37 => {
             let names = HANDOFF_BACK2_NAMES;
             let must = HANDOFF_BACK2_MUST;
-            let mut seen = [0u64; 13];
-            let noted = note(&names, table, count, &mut seen);
-            settle(&must, 0, 0, table, count, &seen, noted)
+            settle(&must, 0, 0, table, count, note(&names, table, count))
         }
         101 => {
             let names = INTER_SYSTEM_SMS_PAGE_NAMES;
             let must = INTER_SYSTEM_SMS_PAGE_MUST;
-            let mut seen = [0u64; 13];
-            let noted = note(&names, table, count, &mut seen);
-            settle(&must, 0, 0, table, count, &seen, noted)
+            settle(&must, 0, 0, table, count, note(&names, table, count))
         }
         _ => Judged::NoRow,
     }
@@ -320,44 +224,32 @@ fn judge_result(specifier: u8, table: &[u16], count: usize) -> Judged
         4 => {
             let names = HANDOFF_BACK_RESULT_NAMES;
             let must = HANDOFF_BACK_RESULT_MUST;
-            let mut seen = [0u64; 13];
-            let noted = note(&names, table, count, &mut seen);
-            settle(&must, 0, 0, table, count, &seen, noted)
+            settle(&must, 0, 0, table, count, note(&names, table, count))
         }
         13 => {
             let names = REGISTRATION_NOTIFICATION_RESULT_NAMES;
             let must = REGISTRATION_NOTIFICATION_RESULT_MUST;
-            let mut seen = [0u64; 13];
-            let noted = note(&names, table, count, &mut seen);
-            settle(&must, 0, 0, table, count, &seen, noted)
+            settle(&must, 0, 0, table, count, note(&names, table, count))
         }
         14 => {
             let names = REGISTRATION_CANCELLATION_RESULT_NAMES;
             let must = REGISTRATION_CANCELLATION_RESULT_MUST;
-            let mut seen = [0u64; 13];
-            let noted = note(&names, table, count, &mut seen);
-            settle(&must, 0, 0, table, count, &seen, noted)
+            settle(&must, 0, 0, table, count, note(&names, table, count))
         }
         26 => {
             let names = FLASH_REQUEST_RESULT_NAMES;
             let must = FLASH_REQUEST_RESULT_MUST;
-            let mut seen = [0u64; 13];
-            let noted = note(&names, table, count, &mut seen);
-            settle(&must, 0, 0, table, count, &seen, noted)
+            settle(&must, 0, 0, table, count, note(&names, table, count))
         }
         64 => {
             let names = ANALYZED_INFORMATION_RESULT_NAMES;
             let must = ANALYZED_INFORMATION_RESULT_MUST;
-            let mut seen = [0u64; 13];
-            let noted = note(&names, table, count, &mut seen);
-            settle(&must, 0, 0, table, count, &seen, noted)
+            settle(&must, 0, 0, table, count, note(&names, table, count))
         }
         101 => {
             let names = INTER_SYSTEM_SMS_PAGE_RESULT_NAMES;
             let must = INTER_SYSTEM_SMS_PAGE_RESULT_MUST;
-            let mut seen = [0u64; 13];
-            let noted = note(&names, table, count, &mut seen);
-            settle(&must, 0, 0, table, count, &seen, noted)
+            settle(&must, 0, 0, table, count, note(&names, table, count))
         }
         _ => Judged::NoRow,
     }

@@ -55,29 +55,36 @@ names-less c = search needs
 
 names-again : tie.Need-names-again Inv-names μ-names
 names-again c =
-    c .before .before .before .before .before .before .before .before .names .inv
-    ∙ sym (other-noted (c .before .before .before .before .before .before .before .before .before .before .args .must .now) (c .before .before .before .before .before .before .before .before .before .before .args .one) (c .before .before .before .before .before .before .before .before .before .before .args .other) (c .before .before .before .before .before .before .before .before .before .before .args .seen .now) (c .before .before .before .before .before .before .before .before .names .at) (c .before .before .before .before .before .before .before .if1 .left) (c .before .before .before .before .before .wide .ensures .0) (c .before .before .before .before .has .ensures) (not-true _ (c .before .before .before .if2 .taken)) (c .before .before .if3 .left) (c .before .has2 .ensures) (not-false _ (c .if4 .left)))
+    let a = c .before .before .before .before .before .before .before .before .before .before .before .args in
+    let l = c .before .before .before .before .before .before .before .before .names in
+    l .inv ∙ sym (other-noted (a .must .now) (a .one) (a .other) (a .seen .now) (l .at) (c .before .before .before .before .before .before .before .if1 .left) (c .before .before .before .before .before .wide .ensures .0) (c .before .before .before .before .has .ensures) (not-true _ (c .before .before .before .if2 .taken)) (c .before .before .if3 .left) (c .before .has2 .ensures) (not-false _ (c .if4 .left)))
 
 names-less-2 : tie.Need-names-less-2 Inv-names μ-names
 names-less-2 c = search needs
 
 names-again-2 : tie.Need-names-again-2 Inv-names μ-names
 names-again-2 c =
-    c .before .before .before .before .before .names .inv
-    ∙ sym (noted (c .before .before .before .before .before .before .before .args .must .now) (c .before .before .before .before .before .before .before .args .one) (c .before .before .before .before .before .before .before .args .other) (c .before .before .before .before .before .before .before .args .seen .now) (c .before .before .before .before .before .names .at) (c .before .before .before .before .if1 .left) (c .before .before .wide .ensures .0) (c .before .has .ensures) (not-false _ (c .if2 .left)))
+    let a = c .before .before .before .before .before .before .before .before .args in
+    let l = c .before .before .before .before .before .names in
+    l .inv ∙ sym (noted (a .must .now) (a .one) (a .other) (a .seen .now) (l .at) (c .before .before .before .before .if1 .left) (c .before .before .wide .ensures .0) (c .before .has .ensures) (not-false _ (c .if2 .left)))
 
 returns : tie.Need-returns Inv-names μ-names
-returns c = none-left (c .before .before .before .args .must .now) (c .before .before .before .args .one) (c .before .before .before .args .other) (c .before .before .before .args .seen .now) (c .before .names .at) (c .if1 .taken) ∙ sym (c .before .names .inv)
+returns c =
+    let a = c .before .before .before .before .args in
+    let l = c .before .names in
+    none-left (a .must .now) (a .one) (a .other) (a .seen .now) (l .at) (c .if1 .taken) ∙ sym (l .inv)
 
 returns-2 : tie.Need-returns-2 Inv-names μ-names
 returns-2 c =
-    not-one (c .before .before .before .before .before .before .before .before .before .args .must .now) (c .before .before .before .before .before .before .before .before .before .args .one) (c .before .before .before .before .before .before .before .before .before .args .other) (c .before .before .before .before .before .before .before .before .before .args .seen .now) (c .before .before .before .before .before .before .before .names .at) (c .before .before .before .before .before .before .if1 .left) (c .before .before .before .before .wide .ensures .0) (c .before .before .before .has .ensures) (not-true _ (c .before .before .if2 .taken)) (c .before .if3 .taken)
-    ∙ sym (c .before .before .before .before .before .before .before .names .inv)
+    let a = c .before .before .before .before .before .before .before .before .before .before .args in
+    let l = c .before .before .before .before .before .before .before .names in
+    not-one (a .must .now) (a .one) (a .other) (a .seen .now) (l .at) (c .before .before .before .before .before .before .if1 .left) (c .before .before .before .before .wide .ensures .0) (c .before .before .before .has .ensures) (not-true _ (c .before .before .if2 .taken)) (c .before .if3 .taken) ∙ sym (l .inv)
 
 returns-3 : tie.Need-returns-3 Inv-names μ-names
 returns-3 c =
-    neither (c .before .before .before .before .before .before .before .before .before .before .before .args .must .now) (c .before .before .before .before .before .before .before .before .before .before .before .args .one) (c .before .before .before .before .before .before .before .before .before .before .before .args .other) (c .before .before .before .before .before .before .before .before .before .before .before .args .seen .now) (c .before .before .before .before .before .before .before .before .before .names .at) (c .before .before .before .before .before .before .before .before .if1 .left) (c .before .before .before .before .before .before .wide .ensures .0) (c .before .before .before .before .before .has .ensures) (not-true _ (c .before .before .before .before .if2 .taken)) (c .before .before .before .if3 .left) (c .before .before .has2 .ensures) (not-true _ (c .before .if4 .taken))
-    ∙ sym (c .before .before .before .before .before .before .before .before .before .names .inv)
+    let a = c .before .before .before .before .before .before .before .before .before .before .before .before .args in
+    let l = c .before .before .before .before .before .before .before .before .before .names in
+    neither (a .must .now) (a .one) (a .other) (a .seen .now) (l .at) (c .before .before .before .before .before .before .before .before .if1 .left) (c .before .before .before .before .before .before .wide .ensures .0) (c .before .before .before .before .before .has .ensures) (not-true _ (c .before .before .before .before .if2 .taken)) (c .before .before .before .if3 .left) (c .before .before .has2 .ensures) (not-true _ (c .before .if4 .taken)) ∙ sym (l .inv)
 
 pub first-missing-spec : {M : Type 1} → statement M
 first-missing-spec =

@@ -2,8 +2,8 @@
 -- those that are named are noted, by the laws of `Noting`. Where an entry's key was noted the search for an earlier entry goes back from the entry:
 -- the key occurred where it did among those that are left.
 -- Assumes nothing.
-use Prim.Native.Nat.{ℕ, _-_, _/_, _%_, _≤_}
-use mathlib.Core.Path.{_≡_, refl, sym, ap, _∙_}
+use Prim.Native.Nat.{ℕ, _-_, _/_, _%_, _<_, _≤_}
+use mathlib.Core.Path.{_≡_, refl, sym, _∙_}
 use lib.ListN.{length, length-set, length-replicate}
 use native.Mathlib.Omega.{arith}
 use borrow.Author.Needs.{needs}
@@ -30,9 +30,14 @@ abbrev μ-parameters : tie.MeasureT-parameters
 
 parameters-holds : tie.Need-parameters-holds Inv-loop μ-loop Inv-parameters μ-parameters
 parameters-holds c =
-    let a = c .before .args in
-    let p = c .before .pre in
-    (search needs, search needs, ap length (p .2) ∙ length-replicate {A = ℕ} 13 0, N.none-noted (a .names .now) (a .table .now) (p .2), λ row _. R.begins row _ _, empty-words (p .2))
+    let a = c .before .before .args in (
+      search needs,
+      search needs,
+      length-replicate {A = ℕ} 13 0,
+      N.none-noted (a .names .now) (a .table .now),
+      λ row _. R.begins row _ _,
+      empty-words,
+    )
 
 add-next : tie.Need-add-next Inv-loop μ-loop Inv-parameters μ-parameters
 add-next c = search needs
@@ -47,10 +52,10 @@ add-named : tie.Need-add-named Inv-loop μ-loop Inv-parameters μ-parameters
 add-named c = search needs
 
 mul-noted : tie.Need-mul-noted Inv-loop μ-loop Inv-parameters μ-parameters
-mul-noted c = let w = inside (c .before .before .before .before .before .before .args .names .now) _ (sym (c .before .has .ensures) ∙ c .if2 .taken) in omega arith
+mul-noted c = let i = inside (c .before .before .before .before .before .before .before .args .names .now) _ (sym (c .before .has .ensures) ∙ c .if2 .taken) in omega arith
 
-element-copy-out-noted : tie.Need-element-copy-out-noted Inv-loop μ-loop Inv-parameters μ-parameters
-element-copy-out-noted c = inside (c .before .before .before .before .before .before .args .names .now) _ (sym (c .before .has .ensures) ∙ c .if2 .taken)
+array-read-noted : tie.Need-array-read-noted Inv-loop μ-loop Inv-parameters μ-parameters
+array-read-noted c = let i = inside (c .before .before .before .before .before .before .before .args .names .now) _ (sym (c .before .has .ensures) ∙ c .if2 .taken) in omega arith
 
 shr-if3 : tie.Need-shr-if3 Inv-loop μ-loop Inv-parameters μ-parameters
 shr-if3 c = search needs
@@ -78,16 +83,16 @@ shl-seen c = search needs
 
 add-seen : tie.Need-add-seen Inv-loop μ-loop Inv-parameters μ-parameters
 add-seen c =
-    let l = c .before .before .before .before .before .before .parameters in
-    let k = c .before .before .before .before .key-at .result in
-    let i = inside (c .before .before .before .before .before .before .before .before .args .names .now) k (sym (c .before .before .before .has .ensures) ∙ c .before .before .if2 .taken) in
-    rw (shifted (k % 64) (omega arith)) (let r = word-room (l .seen) k i (clear-there (l .seen) k i (c .if3 .left)) (l .inv .5 (k / 64)) in omega arith)
+    let l = c .before .before .before .before .before .parameters in
+    let k = c .before .before .before .key-at .result in
+    let r = word-room (l .seen) k (clear-there (l .seen) k (c .if3 .left)) (l .inv .5 (k / 64)) in
+    rw (shifted (k % 64) (omega arith)) (omega arith)
 
 mul-seen : tie.Need-mul-seen Inv-loop μ-loop Inv-parameters μ-parameters
-mul-seen c = let w = inside (c .before .before .before .before .before .before .before .before .args .names .now) _ (sym (c .before .before .before .has .ensures) ∙ c .before .before .if2 .taken) in omega arith
+mul-seen c = let i = inside (c .before .before .before .before .before .before .before .before .args .names .now) _ (sym (c .before .before .has .ensures) ∙ c .before .if2 .taken) in omega arith
 
-element-write-seen : tie.Need-element-write-seen Inv-loop μ-loop Inv-parameters μ-parameters
-element-write-seen c = inside (c .before .before .before .before .before .before .before .before .args .names .now) _ (sym (c .before .before .before .has .ensures) ∙ c .before .before .if2 .taken)
+array-write-seen : tie.Need-array-write-seen Inv-loop μ-loop Inv-parameters μ-parameters
+array-write-seen c = let i = inside (c .before .before .before .before .before .before .before .before .args .names .now) _ (sym (c .before .before .has .ensures) ∙ c .before .if2 .taken) in omega arith
 
 parameters-less : tie.Need-parameters-less Inv-loop μ-loop Inv-parameters μ-parameters
 parameters-less c = search needs
@@ -95,15 +100,14 @@ parameters-less c = search needs
 parameters-again : tie.Need-parameters-again Inv-loop μ-loop Inv-parameters μ-parameters
 parameters-again c =
     let a = c .before .before .before .before .before .before .before .before .before .before .before .args in
-    let l = c .before .before .before .before .before .before .before .before .before .parameters in
-    let k = c .before .before .before .before .before .before .before .key-at .ensures in
-    let h = sym (c .before .before .before .before .before .before .has .ensures) ∙ c .before .before .before .before .before .if2 .taken in
-    let w = set-there (l .seen) _ (inside (a .names .now) _ h) (c .before .before .before .if3 .taken) in (
+    let l = c .before .before .before .before .before .before .before .before .parameters in
+    let k = c .before .before .before .before .before .before .key-at .ensures in
+    let h = sym (c .before .before .before .before .before .has .ensures) ∙ c .before .before .before .before .if2 .taken in (
       search needs,
       search needs,
       l .inv .2,
-      N.noted-before (a .names .now) (a .table .now) (l .seen) (l .at) (l .inv .3) k w,
-      λ row m. l .inv .4 row m ∙ sym (R.fresh row (a .table .now) (a .count) (l .named) (l .at) (c .before .before .before .before .before .before .before .before .if1 .left) k (sym (sym (m _) ∙ h)) (R.not-before _ _ (a .table .now) _ (c .before .loop .inv .1) (c .loop-test .left))),
+      N.noted-before (a .names .now) (a .table .now) (l .seen) (l .at) (l .inv .3) k (set-there (l .seen) _ (c .before .before .before .if3 .taken)),
+      λ row m. l .inv .4 row m ∙ sym (R.fresh row (a .table .now) (a .count) (l .named) (l .at) (c .before .before .before .before .before .before .before .if1 .left) k (sym (sym (m _) ∙ h)) (R.not-before _ _ (a .table .now) _ (c .before .loop .inv .1) (c .loop-test .left))),
       l .inv .5,
     )
 
@@ -113,15 +117,14 @@ parameters-less-2 c = search needs
 parameters-again-2 : tie.Need-parameters-again-2 Inv-loop μ-loop Inv-parameters μ-parameters
 parameters-again-2 c =
     let a = c .before .before .before .before .before .before .before .before .before .args in
-    let l = c .before .before .before .before .before .before .before .parameters in
-    let k = c .before .before .before .before .before .key-at .ensures in
-    let h = sym (c .before .before .before .before .has .ensures) ∙ c .before .before .before .if2 .taken in
-    let w = set-there (l .seen) _ (inside (a .names .now) _ h) (c .before .if3 .taken) in (
+    let l = c .before .before .before .before .before .before .parameters in
+    let k = c .before .before .before .before .key-at .ensures in
+    let h = sym (c .before .before .before .has .ensures) ∙ c .before .before .if2 .taken in (
       search needs,
       search needs,
       l .inv .2,
-      N.noted-before (a .names .now) (a .table .now) (l .seen) (l .at) (l .inv .3) k w,
-      λ row m. l .inv .4 row m ∙ sym (R.fresh row (a .table .now) (a .count) (l .named) (l .at) (c .before .before .before .before .before .before .if1 .left) k (sym (sym (m _) ∙ h)) (R.digits _ _ (c .if4 .left))),
+      N.noted-before (a .names .now) (a .table .now) (l .seen) (l .at) (l .inv .3) k (set-there (l .seen) _ (c .before .if3 .taken)),
+      λ row m. l .inv .4 row m ∙ sym (R.fresh row (a .table .now) (a .count) (l .named) (l .at) (c .before .before .before .before .before .if1 .left) k (sym (sym (m _) ∙ h)) (R.digits _ _ (c .if4 .left))),
       l .inv .5,
     )
 
@@ -131,17 +134,18 @@ parameters-less-3 c = search needs
 parameters-again-3 : tie.Need-parameters-again-3 Inv-loop μ-loop Inv-parameters μ-parameters
 parameters-again-3 c =
     let a = c .before .before .before .before .before .before .before .before .args in
-    let l = c .before .before .before .before .before .before .parameters in
-    let k = c .before .before .before .before .key-at .ensures in
-    let h = sym (c .before .before .before .has .ensures) ∙ c .before .before .if2 .taken in
-    let i = inside (a .names .now) _ h in
-    let w = clear-there (l .seen) _ i (c .if3 .left) in (
+    let l = c .before .before .before .before .before .parameters in
+    let k = c .before .before .before .key-at .ensures in
+    let h = sym (c .before .before .has .ensures) ∙ c .before .if2 .taken in
+    let w = clear-there (l .seen) _ (c .if3 .left) in
+    let j = inside (a .names .now) _ h in
+    let i : c .before .before .before .key-at .result / 64 < length (l .seen) = omega arith in (
       search needs,
       search needs,
       length-set (l .seen) _ _ ∙ l .inv .2,
-      rw (shifted (c .before .before .before .before .key-at .result % 64) (omega arith)) (N.noted-now (a .names .now) (a .table .now) (l .seen) (l .at) (l .inv .3) k h i w (l .inv .2)),
-      λ row m. l .inv .4 row m ∙ sym (R.fresh row (a .table .now) (a .count) (l .named) (l .at) (c .before .before .before .before .before .if1 .left) k (sym (sym (m _) ∙ h)) (N.not-before (a .names .now) (a .table .now) (l .seen) (l .at) (l .inv .3) k h i w)),
-      rw (shifted (c .before .before .before .before .key-at .result % 64) (omega arith)) (still-words (l .seen) _ i w (l .inv .2) (l .inv .5)),
+      rw (shifted (c .before .before .before .key-at .result % 64) (omega arith)) (N.noted-now (a .names .now) (a .table .now) (l .seen) (l .at) (l .inv .3) k h w i),
+      λ row m. l .inv .4 row m ∙ sym (R.fresh row (a .table .now) (a .count) (l .named) (l .at) (c .before .before .before .before .if1 .left) k (sym (sym (m _) ∙ h)) (N.not-before (a .names .now) (a .table .now) (l .seen) (l .at) (l .inv .3) k h w)),
+      rw (shifted (c .before .before .before .key-at .result % 64) (omega arith)) (still-words (l .seen) _ w i (l .inv .5)),
     )
 
 parameters-less-4 : tie.Need-parameters-less-4 Inv-loop μ-loop Inv-parameters μ-parameters
@@ -149,7 +153,7 @@ parameters-less-4 c = search needs
 
 parameters-again-4 : tie.Need-parameters-again-4 Inv-loop μ-loop Inv-parameters μ-parameters
 parameters-again-4 c =
-    let a = c .before .before .before .before .before .before .args in
+    let a = c .before .before .before .before .before .before .before .args in
     let l = c .before .before .before .before .parameters in
     let k = c .before .before .key-at .ensures in
     let h = sym (c .before .has .ensures) ∙ c .if2 .left in (
@@ -163,7 +167,7 @@ parameters-again-4 c =
 
 returns : tie.Need-returns Inv-loop μ-loop Inv-parameters μ-parameters
 returns c =
-    let a = c .before .before .before .args in
+    let a = c .before .before .before .before .args in
     let l = c .before .parameters in
     record {
       counted = λ row m. R.ends row (a .table .now) (a .count) (l .named) (l .at) (c .if1 .taken) ∙ sym (l .inv .4 row m);
@@ -173,11 +177,11 @@ returns c =
 returns-2 : tie.Need-returns-2 Inv-loop μ-loop Inv-parameters μ-parameters
 returns-2 c =
     let a = c .before .before .before .before .before .before .before .before .before .before .before .before .before .args in
-    let l = c .before .before .before .before .before .before .before .before .before .before .before .parameters in
-    let k = c .before .before .before .before .before .before .before .before .before .key-at .ensures in
-    let h = sym (c .before .before .before .before .before .before .before .before .has .ensures) ∙ c .before .before .before .before .before .before .before .if2 .taken in
+    let l = c .before .before .before .before .before .before .before .before .before .before .parameters in
+    let k = c .before .before .before .before .before .before .before .before .key-at .ensures in
+    let h = sym (c .before .before .before .before .before .before .before .has .ensures) ∙ c .before .before .before .before .before .before .if2 .taken in
     record {
-      counted = λ row m. R.again row (a .table .now) (a .count) (l .named) (l .at) (c .before .before .before .before .before .before .before .before .before .before .if1 .left) k (sym (sym (m _) ∙ h)) (R.not-digits _ (c .before .before .before .before .if4 .taken))
+      counted = λ row m. R.again row (a .table .now) (a .count) (l .named) (l .at) (c .before .before .before .before .before .before .before .before .before .if1 .left) k (sym (sym (m _) ∙ h)) (R.not-digits _ (c .before .before .before .before .if4 .taken))
           (found (one-less _ _ (c .before .before .loop-test .taken)) (c .before .key-at2 .ensures) (c .if5 .taken) ∙ sym (c .before .before .before .loop .inv .1))
           ∙ sym (l .inv .4 row m);
       noted = λ _ _. tt;
@@ -197,7 +201,7 @@ note-spec =
     has-requires
     add-named
     mul-noted
-    element-copy-out-noted
+    array-read-noted
     shr-if3
     cast-if4
     loop-holds
@@ -208,7 +212,7 @@ note-spec =
     shl-seen
     add-seen
     mul-seen
-    element-write-seen
+    array-write-seen
     parameters-less
     parameters-again
     parameters-less-2

@@ -14,53 +14,53 @@ use Rattle.operation.proofs.rows.judge_invoke.Tie as tie
 returns : tie.Need-returns
 unfolding rowOf find operations key keysIn wordOf wordsFrom wordsOf among apart mustOf between choice
 returns c =
-    found _ 0xE9 (c .before .before .before .before .before .before .match .keys1) refl
-    (settled _ refl refl (record { listed = refl; chosen = refl; two = refl }) (c .before .before .before .note .ensures) (c .settle .ensures))
+    found _ 0xE9 (c .before .before .before .before .match .keys1) refl
+    (settled _ refl refl (record { listed = refl; chosen = refl; two = refl }) (c .before .note .ensures) (c .settle .ensures))
 
 returns-2 : tie.Need-returns-2
 unfolding rowOf find operations key keysIn wordOf wordsFrom wordsOf among apart mustOf between choice
 returns-2 c =
-    found _ 0xE9 (c .before .before .before .before .before .before .match .keys2) refl
-    (settled _ refl refl (record { listed = refl; chosen = refl; two = refl }) (c .before .before .before .note2 .ensures) (c .settle2 .ensures))
+    found _ 0xE9 (c .before .before .before .before .match .keys2) refl
+    (settled _ refl refl (record { listed = refl; chosen = refl; two = refl }) (c .before .note2 .ensures) (c .settle2 .ensures))
 
 returns-3 : tie.Need-returns-3
 unfolding rowOf find operations key keysIn wordOf wordsFrom wordsOf among apart mustOf between choice
 returns-3 c =
-    found _ 0xE9 (c .before .before .before .before .before .before .match .keys3) refl
-    (settled _ refl refl (record { listed = refl; chosen = refl; two = refl }) (c .before .before .before .note3 .ensures) (c .settle3 .ensures))
+    found _ 0xE9 (c .before .before .before .before .match .keys3) refl
+    (settled _ refl refl (record { listed = refl; chosen = refl; two = refl }) (c .before .note3 .ensures) (c .settle3 .ensures))
 
 returns-4 : tie.Need-returns-4
 unfolding rowOf find operations key keysIn wordOf wordsFrom wordsOf among apart mustOf between choice
 returns-4 c =
-    found _ 0xE9 (c .before .before .before .before .before .before .match .keys4) refl
-    (settled _ refl refl (record { listed = refl; chosen = refl; two = refl }) (c .before .before .before .note4 .ensures) (c .settle4 .ensures))
+    found _ 0xE9 (c .before .before .before .before .match .keys4) refl
+    (settled _ refl refl (record { listed = refl; chosen = refl; two = refl }) (c .before .note4 .ensures) (c .settle4 .ensures))
 
 returns-5 : tie.Need-returns-5
 unfolding rowOf find operations key keysIn wordOf wordsFrom wordsOf among apart mustOf between choice
 returns-5 c =
-    found _ 0xE9 (c .before .before .before .before .before .before .match .keys5) refl
-    (settled _ refl refl (record { listed = refl; chosen = refl; two = refl }) (c .before .before .before .note5 .ensures) (c .settle5 .ensures))
+    found _ 0xE9 (c .before .before .before .before .match .keys5) refl
+    (settled _ refl refl (record { listed = refl; chosen = refl; two = refl }) (c .before .note5 .ensures) (c .settle5 .ensures))
 
 returns-6 : tie.Need-returns-6
 unfolding rowOf find operations key keysIn wordOf wordsFrom wordsOf among apart mustOf between choice
 returns-6 c =
-    found _ 0xE9 (c .before .before .before .before .before .before .match .keys6) refl
-    (settled _ refl refl (record { listed = refl; chosen = refl; two = refl }) (c .before .before .before .note6 .ensures) (c .settle6 .ensures))
+    found _ 0xE9 (c .before .before .before .before .match .keys6) refl
+    (settled _ refl refl (record { listed = refl; chosen = refl; two = refl }) (c .before .note6 .ensures) (c .settle6 .ensures))
 
 returns-7 : tie.Need-returns-7
 returns-7 c = no-invoke _ (c .match .rest)
 
--- what is required of the table, the length of each list, an empty set, and that the two keys of a choice fit
+-- the length of each array, what is required of the table, and that the two keys of a choice fit
 pub judge-invoke-spec : {M : Type 1} → statement M
 judge-invoke-spec =
     tie.close
     (tie.spec
-    (λ c κs. search needs) (λ c. search needs) (λ c κs. search needs)
-    (λ c κs. search needs) (λ c. search needs) (λ c. search needs) (λ c. search needs) (λ c κs. search needs)
-    (λ c κs. search needs) (λ c. search needs) (λ c κs. search needs)
-    (λ c κs. search needs) (λ c. search needs) (λ c κs. search needs)
-    (λ c κs. search needs) (λ c. search needs) (λ c κs. search needs)
-    (λ c κs. search needs) (λ c. search needs) (λ c κs. search needs)
+    (λ c. search needs) (λ c. search needs) (λ c κs. search needs) (λ c κs. search needs)
+    (λ c. search needs) (λ c. search needs) (λ c. search needs) (λ c. search needs) (λ c κs. search needs) (λ c κs. search needs)
+    (λ c. search needs) (λ c. search needs) (λ c κs. search needs) (λ c κs. search needs)
+    (λ c. search needs) (λ c. search needs) (λ c κs. search needs) (λ c κs. search needs)
+    (λ c. search needs) (λ c. search needs) (λ c κs. search needs) (λ c κs. search needs)
+    (λ c. search needs) (λ c. search needs) (λ c κs. search needs) (λ c κs. search needs)
     returns
     returns-2
     returns-3
