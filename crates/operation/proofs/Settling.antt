@@ -1,4 +1,4 @@
--- 13 and 14 behind a walk that found no repeat, by what it noted; and a row as the code holds it.
+-- 13 and 14 behind a walk that found no repeat, by what it noted; and an arm of the code, which holds a row.
 -- Assumes nothing.
 use Prim.Native.Nat.{ℕ}
 use mathlib.Core.Path.{_≡_, sym, ap, subst, _∙_}
@@ -9,13 +9,14 @@ use lib.Dec.{eqb}
 use Rattle.element.specs.Answer.{accepted, refused}
 use Rattle.operation.specs.Row.{Row, Item, oneOf, named}
 use Rattle.operation.specs.Judge.{occurs, lastMark, present}
-use Rattle.operation.specs.Coded.{holds, Names, keysIn, wordsOf, apart, Asks, judgement, judgedIn}
+use Rattle.operation.specs.Finding.{rowOf}
+use Rattle.operation.specs.Coded.{holds, keysIn, wordsOf, apart, mustOf, between, sound, Asks, judgement, verdict, judgedIn}
 use Rattle.operation.specs.Firsts.{onceCounted, repeatIn, Noted, lacking, Walked, Settles}
 use Rattle.operation.specs.declared.Judged as J
 use Rattle.operation.specs.declared.Repeat as R
 use Rattle.operation.specs.declared.Repeat.the-variants as RV
 use Rattle.operation.proofs.Musts.{by-notes, by-one, by-both}
-use Rattle.operation.proofs.Sets.{row-names}
+use Rattle.operation.proofs.Sets.{each, row-names}
 use Rattle.operation.proofs.Verdicts as Verdict
 
 module _ (row : Row) (list : List ℕ) (one other : ℕ) (seen : List ℕ) (xs : List Item) (asks : Asks row list one other) {noted : R.Repeat} {n : ℕ}
@@ -48,8 +49,14 @@ module _ (row : Row) (list : List ℕ) (one other : ℕ) (seen : List ℕ) (xs :
     pub not-other : holds seen other ≡ false → accepted n ≡ judgement row xs
     not-other b = fits λ _. ap (λ t. holds seen one && t) b ∙ and-false (holds seen one)
 
--- ---- the walk and what settles it, over what the code holds of a row
-pub settled : (row : Row) {names list seen : List ℕ} {one other : ℕ} {xs : List Item} {noted : R.Repeat} {r : J.Judged} →
-    names ≡ wordsOf row (length names) → apart (length names) (keysIn row) ≡ true → Asks row list one other →
-    Walked noted names seen xs → Settles noted r list one other seen xs → judgedIn r ≡ judgement row xs
-settled row e h a w s = let n = row-names row e h in s .judged row a (w .counted row n) (w .noted row n)
+-- ---- an arm: the words and the list that it holds are those of the paper's row, and its walk and what settles it judge by that
+pub arm : (kind : ℕ) {specifier k : ℕ} {row : Row} {names list seen : List ℕ} {one other : ℕ} {xs : List Item} {noted : R.Repeat} {r : J.Judged} →
+    specifier ≡ k → rowOf kind k 0 ≡ accepted row →
+    names ≡ wordsOf row (length names) → list ≡ mustOf row → sound row (length names) one other ≡ true →
+    Walked noted names seen xs → Settles noted r list one other seen xs → judgedIn r ≡ verdict kind specifier xs
+unfolding sound
+arm kind {row = row} {names = names} {xs = xs} s e w l h walked settles =
+    let (a, b) = each (apart (length names) (keysIn row)) _ h in
+    let (c, d) = each (between _ _ row) _ b in
+    let n = row-names row w a in
+    Verdict.found xs kind s e (settles .judged row (record { listed = l; chosen = c; two = d }) (walked .counted row n) (walked .noted row n))

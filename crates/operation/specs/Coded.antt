@@ -76,6 +76,10 @@ pub record Asks (row : Row) (list : List ℕ) (one other : ℕ) : Type 0 where
   pub chosen : between one other row ≡ true
   pub two : (eqb one other || choice row) ≡ true
 
+-- what `n` words and a choice must be to say what the row does
+unfoldable pub sound : Row → (n one other : ℕ) → Bool
+sound row n one other = apart n (keysIn row) && (between one other row && (eqb one other || choice row))
+
 -- ---- a run of parameters
 -- the item of entry `i`, marked by `i`
 unfoldable pub itemAt : (table : List ℕ) (i : ℕ) → Item

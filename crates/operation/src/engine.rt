@@ -1,4 +1,5 @@
 // The judgement of a row over a table of entries: 12, 13 and 14, in their order.
+use super::Choice;
 use super::Judged;
 use super::Missing;
 use super::Notes;
@@ -30,7 +31,7 @@ fn key_at(table: &[u16], entry: usize) -> u64
     number * 2 + form
 }
 
-// Whether a key is in a set: one bit for each key, 64 to a word.
+// Whether a key is in a set: one bit for each key, 64 to a word. Beyond the words there is none.
 fn has(set: &[u64], key: u64) -> bool
     ensures { λ r. ⌜ r ≡ holds (now (set .entry)) key ⌝ }
 {
@@ -128,18 +129,20 @@ fn first_missing(must: &[u16], one: u64, other: u64, seen: &[u64]) -> Missing
     answer
 }
 
-// 13 and 14 by what was noted. A row with no choice gives the same key twice.
+// 13 and 14 by what was noted.
 pub(crate) fn settle(
     must: &[u16],
-    one: u64,
-    other: u64,
+    choice: Choice,
     table: &[u16],
     count: usize,
     notes: Notes,
 ) -> Judged
     requires { ⌜ (4 * count ≤ length (now table)) × (count ≤ 64) ⌝ }
-    ensures { λ r. ⌜ Settles (notes .repeat) r (now (must .entry)) one other (notes .seen) (itemsFrom (now (table .entry)) 0 count) ⌝ }
+    ensures { λ r. ⌜ Settles (notes .repeat) r (now (must .entry)) (choice .one) (choice .other) (notes .seen)
+        (itemsFrom (now (table .entry)) 0 count) ⌝ }
 {
+    let one = choice.one;
+    let other = choice.other;
     let seen = notes.seen;
     let repeat = notes.repeat;
     match repeat {

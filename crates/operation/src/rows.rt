@@ -1,4 +1,5 @@
 // The register and the rows of the paper, and the row that an operation asks.
+use super::Choice;
 use super::Judged;
 use super::engine::note;
 use super::engine::settle;
@@ -44,8 +45,9 @@ pub(crate) const SMS_CAUSE_CODE: u16 = 306;
 
 pub(crate) const IMSI: u16 = 484;
 
-// ---- the rows: what must occur, in the paper's order, and of a choice the first; then all that is named, as a set: 64 keys
-// to a word, which `names` tells apart
+// ---- the rows. Of each first what must occur, in the paper's order, and of a choice its first member; then all that it
+// names, as a set: a word for 64 keys, so for 32 numbers, from number 0 on, and no word behind the last that is named.
+// `harness/rows` tells both of a row that was changed in the definitions.
 
 const HANDOFF_BACK_MUST: [u16; 5] = [
     CHANNEL_DATA,
@@ -167,8 +169,15 @@ const INTER_SYSTEM_SMS_PAGE_RESULT_NAMES: [u64; 5] = [
 
 // ---- the row of an operation
 
-// What the row of an invoke says of `count` entries of a table. A constant that is lent is stored where the function
-// starts, and one that an arm copies is stored there alone.
+const NO_CHOICE: Choice = Choice { one: 0, other: 0 };
+
+const MIN_OR_IMSI: Choice = Choice {
+    one: MIN as u64,
+    other: IMSI as u64,
+};
+
+// What the row of an invoke says of `count` entries of a table. The compiler unrolls `note` and `settle` in the arm whose
+// row it knows. A constant that is lent is stored where the function starts, and one that an arm copies there alone.
 fn judge_invoke(specifier: u8, table: &[u16], count: usize) -> Judged
     requires { ⌜ (4 * count ≤ length (now table)) × (count ≤ 64) ⌝ }
     ensures { λ r. ⌜ judgedIn r ≡ verdict 0xE9 specifier (itemsFrom (now (table .entry)) 0 count) ⌝ }
@@ -177,39 +186,32 @@ fn judge_invoke(specifier: u8, table: &[u16], count: usize) -> Judged
         4 => {
             let names = HANDOFF_BACK_NAMES;
             let must = HANDOFF_BACK_MUST;
-            settle(&must, 0, 0, table, count, note(&names, table, count))
+            settle(&must, NO_CHOICE, table, count, note(&names, table, count))
         }
         13 => {
             let names = REGISTRATION_NOTIFICATION_NAMES;
             let must = REGISTRATION_NOTIFICATION_MUST;
-            settle(
-                &must,
-                MIN as u64,
-                IMSI as u64,
-                table,
-                count,
-                note(&names, table, count),
-            )
+            settle(&must, MIN_OR_IMSI, table, count, note(&names, table, count))
         }
         15 => {
             let names = LOCATION_REQUEST_NAMES;
             let must = LOCATION_REQUEST_MUST;
-            settle(&must, 0, 0, table, count, note(&names, table, count))
+            settle(&must, NO_CHOICE, table, count, note(&names, table, count))
         }
         32 => {
             let names = INTER_SYSTEM_PAGE_NAMES;
             let must = INTER_SYSTEM_PAGE_MUST;
-            settle(&must, 0, 0, table, count, note(&names, table, count))
+            settle(&must, NO_CHOICE, table, count, note(&names, table, count))
         }
         37 => {
             let names = HANDOFF_BACK2_NAMES;
             let must = HANDOFF_BACK2_MUST;
-            settle(&must, 0, 0, table, count, note(&names, table, count))
+            settle(&must, NO_CHOICE, table, count, note(&names, table, count))
         }
         101 => {
             let names = INTER_SYSTEM_SMS_PAGE_NAMES;
             let must = INTER_SYSTEM_SMS_PAGE_MUST;
-            settle(&must, 0, 0, table, count, note(&names, table, count))
+            settle(&must, NO_CHOICE, table, count, note(&names, table, count))
         }
         _ => Judged::NoRow,
     }
@@ -224,32 +226,32 @@ fn judge_result(specifier: u8, table: &[u16], count: usize) -> Judged
         4 => {
             let names = HANDOFF_BACK_RESULT_NAMES;
             let must = HANDOFF_BACK_RESULT_MUST;
-            settle(&must, 0, 0, table, count, note(&names, table, count))
+            settle(&must, NO_CHOICE, table, count, note(&names, table, count))
         }
         13 => {
             let names = REGISTRATION_NOTIFICATION_RESULT_NAMES;
             let must = REGISTRATION_NOTIFICATION_RESULT_MUST;
-            settle(&must, 0, 0, table, count, note(&names, table, count))
+            settle(&must, NO_CHOICE, table, count, note(&names, table, count))
         }
         14 => {
             let names = REGISTRATION_CANCELLATION_RESULT_NAMES;
             let must = REGISTRATION_CANCELLATION_RESULT_MUST;
-            settle(&must, 0, 0, table, count, note(&names, table, count))
+            settle(&must, NO_CHOICE, table, count, note(&names, table, count))
         }
         26 => {
             let names = FLASH_REQUEST_RESULT_NAMES;
             let must = FLASH_REQUEST_RESULT_MUST;
-            settle(&must, 0, 0, table, count, note(&names, table, count))
+            settle(&must, NO_CHOICE, table, count, note(&names, table, count))
         }
         64 => {
             let names = ANALYZED_INFORMATION_RESULT_NAMES;
             let must = ANALYZED_INFORMATION_RESULT_MUST;
-            settle(&must, 0, 0, table, count, note(&names, table, count))
+            settle(&must, NO_CHOICE, table, count, note(&names, table, count))
         }
         101 => {
             let names = INTER_SYSTEM_SMS_PAGE_RESULT_NAMES;
             let must = INTER_SYSTEM_SMS_PAGE_RESULT_MUST;
-            settle(&must, 0, 0, table, count, note(&names, table, count))
+            settle(&must, NO_CHOICE, table, count, note(&names, table, count))
         }
         _ => Judged::NoRow,
     }
