@@ -20,47 +20,11 @@ abbrev μ-names : tie.MeasureT-names
 names-holds : tie.Need-names-holds Inv-names μ-names
 names-holds c = refl
 
-add-next : tie.Need-add-next Inv-names μ-names
-add-next c = search needs
-
-mul-wide : tie.Need-mul-wide Inv-names μ-names
-mul-wide c = search needs
-
-shared-slice-read-wide : tie.Need-shared-slice-read-wide Inv-names μ-names
-shared-slice-read-wide c = search needs
-
-wide-requires : tie.Need-wide-requires Inv-names μ-names
-wide-requires c κs = search needs
-
-has-requires : tie.Need-has-requires Inv-names μ-names
-has-requires c κs = search needs
-
-mul-t16 : tie.Need-mul-t16 Inv-names μ-names
-mul-t16 c = search needs
-
-shared-slice-read-t18 : tie.Need-shared-slice-read-t18 Inv-names μ-names
-shared-slice-read-t18 c = search needs
-
-has-requires-2 : tie.Need-has-requires-2 Inv-names μ-names
-has-requires-2 c κs = search needs
-
-mul-t21 : tie.Need-mul-t21 Inv-names μ-names
-mul-t21 c = search needs
-
-shared-slice-read-t23 : tie.Need-shared-slice-read-t23 Inv-names μ-names
-shared-slice-read-t23 c = search needs
-
-names-less : tie.Need-names-less Inv-names μ-names
-names-less c = search needs
-
 names-again : tie.Need-names-again Inv-names μ-names
 names-again c =
     let a = c .before .before .before .before .before .before .before .before .before .before .before .args in
     let l = c .before .before .before .before .before .before .before .before .names in
     l .inv ∙ sym (other-noted (a .must .now) (a .one) (a .other) (a .seen .now) (l .at) (c .before .before .before .before .before .before .before .if1 .left) (c .before .before .before .before .before .wide .ensures .0) (c .before .before .before .before .has .ensures) (not-true _ (c .before .before .before .if2 .taken)) (c .before .before .if3 .left) (c .before .has2 .ensures) (not-false _ (c .if4 .left)))
-
-names-less-2 : tie.Need-names-less-2 Inv-names μ-names
-names-less-2 c = search needs
 
 names-again-2 : tie.Need-names-again-2 Inv-names μ-names
 names-again-2 c =
@@ -93,19 +57,11 @@ first-missing-spec =
     Inv-names
     μ-names
     names-holds
-    add-next
-    mul-wide
-    shared-slice-read-wide
-    wide-requires
-    has-requires
-    mul-t16
-    shared-slice-read-t18
-    has-requires-2
-    mul-t21
-    shared-slice-read-t23
-    names-less
+    (λ c. search needs) (λ c. search needs) (λ c. search needs) (λ c κs. search needs) (λ c κs. search needs)
+    (λ c. search needs) (λ c. search needs) (λ c κs. search needs) (λ c. search needs) (λ c. search needs)
+    (λ c. search needs)
     names-again
-    names-less-2
+    (λ c. search needs)
     names-again-2
     returns
     returns-2

@@ -6,15 +6,6 @@ use Rattle.operation.proofs.Sets.{beyond, within}
 use Rattle.operation.proofs.engine.has.Statement.{statement}
 use Rattle.operation.proofs.engine.has.Tie as tie
 
-mul-result : tie.Need-mul-result
-mul-result c = search needs
-
-shared-slice-read-result : tie.Need-shared-slice-read-result
-shared-slice-read-result c = search needs
-
-shr-result : tie.Need-shr-result
-shr-result c = search needs
-
 returns : tie.Need-returns
 returns c = within (c .before .before .args .set .now) (c .before .before .args .key)
 
@@ -22,4 +13,9 @@ returns-2 : tie.Need-returns-2
 returns-2 c = sym (beyond (c .before .args .set .now) (c .before .args .key) (c .if1 .left))
 
 pub has-spec : {M : Type 1} → statement M
-has-spec = tie.close (tie.spec mul-result shared-slice-read-result shr-result returns returns-2)
+has-spec =
+    tie.close
+    (tie.spec
+    (λ c. search needs) (λ c. search needs) (λ c. search needs)
+    returns
+    returns-2)

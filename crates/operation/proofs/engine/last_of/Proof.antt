@@ -19,30 +19,15 @@ abbrev μ-loop : tie.MeasureT-loop
 loop-holds : tie.Need-loop-holds Inv-loop μ-loop
 loop-holds c = ap (lastMark _ 0) (all _ _)
 
-add-next : tie.Need-add-next Inv-loop μ-loop
-add-next c = search needs
-
-key-at-requires : tie.Need-key-at-requires Inv-loop μ-loop
-key-at-requires c κs = search needs
-
-loop-less : tie.Need-loop-less Inv-loop μ-loop
-loop-less c = search needs
-
 loop-again : tie.Need-loop-again Inv-loop μ-loop
 loop-again c =
     c .before .before .before .loop .inv
     ∙ sym (last-here _ _ _ (oneOf (c .before .before .before .before .before .args .one) (c .before .before .before .before .before .args .other)) _ (c .before .before .loop-test .taken) (c .before .key-at .ensures) (is-one _ _ _ (c .if1 .taken)) refl)
 
-loop-less-2 : tie.Need-loop-less-2 Inv-loop μ-loop
-loop-less-2 c = search needs
-
 loop-again-2 : tie.Need-loop-again-2 Inv-loop μ-loop
 loop-again-2 c =
     c .before .before .before .before .loop .inv
     ∙ sym (last-here _ _ _ (oneOf (c .before .before .before .before .before .before .args .one) (c .before .before .before .before .before .before .args .other)) _ (c .before .before .before .loop-test .taken) (c .before .before .key-at .ensures) (is-other _ _ _ (c .before .if1 .left) (c .if2 .taken)) refl)
-
-loop-less-3 : tie.Need-loop-less-3 Inv-loop μ-loop
-loop-less-3 c = search needs
 
 loop-again-3 : tie.Need-loop-again-3 Inv-loop μ-loop
 loop-again-3 c =
@@ -59,12 +44,10 @@ last-of-spec =
     Inv-loop
     μ-loop
     loop-holds
-    add-next
-    key-at-requires
-    loop-less
+    (λ c. search needs) (λ c κs. search needs) (λ c. search needs)
     loop-again
-    loop-less-2
+    (λ c. search needs)
     loop-again-2
-    loop-less-3
+    (λ c. search needs)
     loop-again-3
     returns)

@@ -39,47 +39,17 @@ parameters-holds c =
       empty-words,
     )
 
-add-next : tie.Need-add-next Inv-loop μ-loop Inv-parameters μ-parameters
-add-next c = search needs
-
-key-at-requires : tie.Need-key-at-requires Inv-loop μ-loop Inv-parameters μ-parameters
-key-at-requires c κs = search needs
-
-has-requires : tie.Need-has-requires Inv-loop μ-loop Inv-parameters μ-parameters
-has-requires c κs = search needs
-
-add-named : tie.Need-add-named Inv-loop μ-loop Inv-parameters μ-parameters
-add-named c = search needs
-
 mul-noted : tie.Need-mul-noted Inv-loop μ-loop Inv-parameters μ-parameters
 mul-noted c = let i = inside (c .before .before .before .before .before .before .before .args .names .now) _ (sym (c .before .has .ensures) ∙ c .if2 .taken) in omega arith
 
 array-read-noted : tie.Need-array-read-noted Inv-loop μ-loop Inv-parameters μ-parameters
 array-read-noted c = let i = inside (c .before .before .before .before .before .before .before .args .names .now) _ (sym (c .before .has .ensures) ∙ c .if2 .taken) in omega arith
 
-shr-if3 : tie.Need-shr-if3 Inv-loop μ-loop Inv-parameters μ-parameters
-shr-if3 c = search needs
-
-cast-if4 : tie.Need-cast-if4 Inv-loop μ-loop Inv-parameters μ-parameters
-cast-if4 c = search needs
-
 loop-holds : tie.Need-loop-holds Inv-loop μ-loop Inv-parameters μ-parameters
 loop-holds c = (search needs, refl)
 
-sub-before : tie.Need-sub-before Inv-loop μ-loop Inv-parameters μ-parameters
-sub-before c = search needs
-
-key-at-requires-2 : tie.Need-key-at-requires-2 Inv-loop μ-loop Inv-parameters μ-parameters
-key-at-requires-2 c κs = search needs
-
-loop-less : tie.Need-loop-less Inv-loop μ-loop Inv-parameters μ-parameters
-loop-less c = search needs
-
 loop-again : tie.Need-loop-again Inv-loop μ-loop Inv-parameters μ-parameters
 loop-again c = (search needs, c .before .before .before .loop .inv .1 ∙ sym (passed (one-less _ _ (c .before .before .loop-test .taken)) (c .before .key-at2 .ensures) (c .if5 .left)))
-
-shl-seen : tie.Need-shl-seen Inv-loop μ-loop Inv-parameters μ-parameters
-shl-seen c = search needs
 
 add-seen : tie.Need-add-seen Inv-loop μ-loop Inv-parameters μ-parameters
 add-seen c =
@@ -93,9 +63,6 @@ mul-seen c = let i = inside (c .before .before .before .before .before .before .
 
 array-write-seen : tie.Need-array-write-seen Inv-loop μ-loop Inv-parameters μ-parameters
 array-write-seen c = let i = inside (c .before .before .before .before .before .before .before .before .args .names .now) _ (sym (c .before .before .has .ensures) ∙ c .before .if2 .taken) in omega arith
-
-parameters-less : tie.Need-parameters-less Inv-loop μ-loop Inv-parameters μ-parameters
-parameters-less c = search needs
 
 parameters-again : tie.Need-parameters-again Inv-loop μ-loop Inv-parameters μ-parameters
 parameters-again c =
@@ -111,9 +78,6 @@ parameters-again c =
       l .inv .5,
     )
 
-parameters-less-2 : tie.Need-parameters-less-2 Inv-loop μ-loop Inv-parameters μ-parameters
-parameters-less-2 c = search needs
-
 parameters-again-2 : tie.Need-parameters-again-2 Inv-loop μ-loop Inv-parameters μ-parameters
 parameters-again-2 c =
     let a = c .before .before .before .before .before .before .before .before .before .args in
@@ -127,9 +91,6 @@ parameters-again-2 c =
       λ row m. l .inv .4 row m ∙ sym (R.fresh row (a .table .now) (a .count) (l .named) (l .at) (c .before .before .before .before .before .if1 .left) k (sym (sym (m _) ∙ h)) (R.digits _ _ (c .if4 .left))),
       l .inv .5,
     )
-
-parameters-less-3 : tie.Need-parameters-less-3 Inv-loop μ-loop Inv-parameters μ-parameters
-parameters-less-3 c = search needs
 
 parameters-again-3 : tie.Need-parameters-again-3 Inv-loop μ-loop Inv-parameters μ-parameters
 parameters-again-3 c =
@@ -147,9 +108,6 @@ parameters-again-3 c =
       λ row m. l .inv .4 row m ∙ sym (R.fresh row (a .table .now) (a .count) (l .named) (l .at) (c .before .before .before .before .if1 .left) k (sym (sym (m _) ∙ h)) (N.not-before (a .names .now) (a .table .now) (l .seen) (l .at) (l .inv .3) k h w)),
       rw (shifted (c .before .before .before .key-at .result % 64) (omega arith)) (still-words (l .seen) _ w i (l .inv .5)),
     )
-
-parameters-less-4 : tie.Need-parameters-less-4 Inv-loop μ-loop Inv-parameters μ-parameters
-parameters-less-4 c = search needs
 
 parameters-again-4 : tie.Need-parameters-again-4 Inv-loop μ-loop Inv-parameters μ-parameters
 parameters-again-4 c =
@@ -196,30 +154,24 @@ note-spec =
     Inv-parameters
     μ-parameters
     parameters-holds
-    add-next
-    key-at-requires
-    has-requires
-    add-named
+    (λ c. search needs) (λ c κs. search needs) (λ c κs. search needs) (λ c. search needs)
     mul-noted
     array-read-noted
-    shr-if3
-    cast-if4
+    (λ c. search needs) (λ c. search needs)
     loop-holds
-    sub-before
-    key-at-requires-2
-    loop-less
+    (λ c. search needs) (λ c κs. search needs) (λ c. search needs)
     loop-again
-    shl-seen
+    (λ c. search needs)
     add-seen
     mul-seen
     array-write-seen
-    parameters-less
+    (λ c. search needs)
     parameters-again
-    parameters-less-2
+    (λ c. search needs)
     parameters-again-2
-    parameters-less-3
+    (λ c. search needs)
     parameters-again-3
-    parameters-less-4
+    (λ c. search needs)
     parameters-again-4
     returns
     returns-2)

@@ -11,39 +11,6 @@ use borrow.Author.Needs.{needs}
 use Rattle.operation.proofs.engine.settle.Statement.{statement}
 use Rattle.operation.proofs.engine.settle.Tie as tie
 
-enum-known-repeat : tie.Need-enum-known-repeat
-enum-known-repeat c = search needs
-
-enum-known-repeat-2 : tie.Need-enum-known-repeat-2
-enum-known-repeat-2 c = search needs
-
-slice-aggregate-first-missing : tie.Need-slice-aggregate-first-missing
-slice-aggregate-first-missing c = search needs
-
-first-missing-requires : tie.Need-first-missing-requires
-first-missing-requires c κs = search needs
-
-enum-known-number : tie.Need-enum-known-number
-enum-known-number c = search needs
-
-enum-told : tie.Need-enum-told
-enum-told c = search needs
-
-slice-aggregate-has : tie.Need-slice-aggregate-has
-slice-aggregate-has c = search needs
-
-has-requires : tie.Need-has-requires
-has-requires c κs = search needs
-
-slice-aggregate-has-2 : tie.Need-slice-aggregate-has-2
-slice-aggregate-has-2 c = search needs
-
-has-requires-2 : tie.Need-has-requires-2
-has-requires-2 c κs = search needs
-
-last-of-requires : tie.Need-last-of-requires
-last-of-requires c κs = search needs
-
 returns : tie.Need-returns
 returns c = record { judged = λ row a r n. ap (refused 14) (c .last-of .ensures) ∙ S.both row _ _ _ _ _ a (c .before .before .before .before .before .before .before .before .before .before .before .before .before .repeat2 .given .1) r n (sym (ap missingIn (c .before .before .before .before .before .before .before .before .enum-told .given .1)) ∙ c .before .before .before .before .before .before .before .before .before .before .first-missing .ensures) (ne-eqb _ _ (c .before .before .before .before .before .before .before .if1 .taken)) (sym (c .before .before .before .before .before .has .ensures) ∙ c .before .before .before .before .if2 .taken) (sym (c .before .before .has2 .ensures) ∙ c .before .if3 .taken) }
 
@@ -66,17 +33,9 @@ pub settle-spec : {M : Type 1} → statement M
 settle-spec =
     tie.close
     (tie.spec
-    enum-known-repeat
-    enum-known-repeat-2
-    slice-aggregate-first-missing
-    first-missing-requires
-    enum-known-number
-    enum-told
-    slice-aggregate-has
-    has-requires
-    slice-aggregate-has-2
-    has-requires-2
-    last-of-requires
+    (λ c. search needs) (λ c. search needs) (λ c. search needs) (λ c κs. search needs) (λ c. search needs)
+    (λ c. search needs) (λ c. search needs) (λ c κs. search needs) (λ c. search needs) (λ c κs. search needs)
+    (λ c κs. search needs)
     returns
     returns-2
     returns-3
