@@ -10,7 +10,6 @@ pub mod Finding
 pub mod Newcomers
 pub mod Coded
 pub mod Firsts
-pub mod Noting
 pub mod Reading
 pub mod Inside
 pub mod Writing

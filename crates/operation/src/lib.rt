@@ -1,5 +1,6 @@
 // The operation rows over a component: reading and writing.
 mod engine;
+mod names;
 mod rows;
 mod sheet;
 
@@ -61,23 +62,28 @@ pub enum Writing {
     Refused { number: u8, detail: u32 },
 }
 
-// What the row names and occurs again, and is not Digits; else how many of the parameters the row names, and whether two of
-// them share a line.
+// What the row names and occurs again, and is not Digits; else how many of the parameters the row names.
 enum Repeat {
-    None { named: usize, shared: bool },
+    None { named: usize },
     At(usize),
+}
+
+// What a walk over the parameters found, and the keys that it noted.
+struct Notes {
+    repeat: Repeat,
+    seen: [u64; 13],
+}
+
+// Two keys of which one must occur, and not both; a row with no choice has the same key twice.
+struct Choice {
+    one: u64,
+    other: u64,
 }
 
 // What must occur and does not.
 enum Missing {
     None,
     Number(u16),
-}
-
-// A choice of which both members occur: the last entry that is one of them.
-enum Both {
-    None,
-    At(usize),
 }
 
 // ---- reader
