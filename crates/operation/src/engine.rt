@@ -1,5 +1,4 @@
 // The judgement of a row over a table of entries: 12, 13 and 14, in their order.
-use super::Choice;
 use super::Judged;
 use super::Missing;
 use super::Notes;
@@ -129,20 +128,20 @@ fn first_missing(must: &[u16], one: u64, other: u64, seen: &[u64]) -> Missing
     answer
 }
 
-// 13 and 14 by what was noted.
+// 13 and 14 by what was noted. A row with no choice gives the same key twice. The two keys are numbers and no struct: the
+// compiler sees by them what an arm does not need, and so unrolls the rest there.
 pub(crate) fn settle(
     must: &[u16],
-    choice: Choice,
+    one: u64,
+    other: u64,
     table: &[u16],
     count: usize,
     notes: Notes,
 ) -> Judged
     requires { ⌜ (4 * count ≤ length (now table)) × (count ≤ 64) ⌝ }
-    ensures { λ r. ⌜ Settles (notes .repeat) r (now (must .entry)) (choice .one) (choice .other) (notes .seen)
+    ensures { λ r. ⌜ Settles (notes .repeat) r (now (must .entry)) one other (notes .seen)
         (itemsFrom (now (table .entry)) 0 count) ⌝ }
 {
-    let one = choice.one;
-    let other = choice.other;
     let seen = notes.seen;
     let repeat = notes.repeat;
     match repeat {

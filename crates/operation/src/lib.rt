@@ -74,12 +74,6 @@ struct Notes {
     seen: [u64; 13],
 }
 
-// Two keys of which one must occur, and not both; a row with no choice has the same key twice.
-struct Choice {
-    one: u64,
-    other: u64,
-}
-
 // What must occur and does not.
 enum Missing {
     None,

@@ -1,5 +1,4 @@
 // The register and the rows of the paper, and the row that an operation asks.
-use super::Choice;
 use super::Judged;
 use super::engine::note;
 use super::engine::settle;
@@ -169,12 +168,12 @@ const INTER_SYSTEM_SMS_PAGE_RESULT_NAMES: [u64; 5] = [
 
 // ---- the row of an operation
 
-const NO_CHOICE: Choice = Choice { one: 0, other: 0 };
+// The members of a choice, as the engine compares them; in a row with no choice none.
+const NONE: u64 = 0;
 
-const MIN_OR_IMSI: Choice = Choice {
-    one: MIN as u64,
-    other: IMSI as u64,
-};
+const MIN_KEY: u64 = MIN as u64;
+
+const IMSI_KEY: u64 = IMSI as u64;
 
 // What the row of an invoke says of `count` entries of a table. The compiler unrolls `note` and `settle` in the arm whose
 // row it knows. A constant that is lent is stored where the function starts, and one that an arm copies there alone.
@@ -186,32 +185,39 @@ fn judge_invoke(specifier: u8, table: &[u16], count: usize) -> Judged
         4 => {
             let names = HANDOFF_BACK_NAMES;
             let must = HANDOFF_BACK_MUST;
-            settle(&must, NO_CHOICE, table, count, note(&names, table, count))
+            settle(&must, NONE, NONE, table, count, note(&names, table, count))
         }
         13 => {
             let names = REGISTRATION_NOTIFICATION_NAMES;
             let must = REGISTRATION_NOTIFICATION_MUST;
-            settle(&must, MIN_OR_IMSI, table, count, note(&names, table, count))
+            settle(
+                &must,
+                MIN_KEY,
+                IMSI_KEY,
+                table,
+                count,
+                note(&names, table, count),
+            )
         }
         15 => {
             let names = LOCATION_REQUEST_NAMES;
             let must = LOCATION_REQUEST_MUST;
-            settle(&must, NO_CHOICE, table, count, note(&names, table, count))
+            settle(&must, NONE, NONE, table, count, note(&names, table, count))
         }
         32 => {
             let names = INTER_SYSTEM_PAGE_NAMES;
             let must = INTER_SYSTEM_PAGE_MUST;
-            settle(&must, NO_CHOICE, table, count, note(&names, table, count))
+            settle(&must, NONE, NONE, table, count, note(&names, table, count))
         }
         37 => {
             let names = HANDOFF_BACK2_NAMES;
             let must = HANDOFF_BACK2_MUST;
-            settle(&must, NO_CHOICE, table, count, note(&names, table, count))
+            settle(&must, NONE, NONE, table, count, note(&names, table, count))
         }
         101 => {
             let names = INTER_SYSTEM_SMS_PAGE_NAMES;
             let must = INTER_SYSTEM_SMS_PAGE_MUST;
-            settle(&must, NO_CHOICE, table, count, note(&names, table, count))
+            settle(&must, NONE, NONE, table, count, note(&names, table, count))
         }
         _ => Judged::NoRow,
     }
@@ -226,32 +232,32 @@ fn judge_result(specifier: u8, table: &[u16], count: usize) -> Judged
         4 => {
             let names = HANDOFF_BACK_RESULT_NAMES;
             let must = HANDOFF_BACK_RESULT_MUST;
-            settle(&must, NO_CHOICE, table, count, note(&names, table, count))
+            settle(&must, NONE, NONE, table, count, note(&names, table, count))
         }
         13 => {
             let names = REGISTRATION_NOTIFICATION_RESULT_NAMES;
             let must = REGISTRATION_NOTIFICATION_RESULT_MUST;
-            settle(&must, NO_CHOICE, table, count, note(&names, table, count))
+            settle(&must, NONE, NONE, table, count, note(&names, table, count))
         }
         14 => {
             let names = REGISTRATION_CANCELLATION_RESULT_NAMES;
             let must = REGISTRATION_CANCELLATION_RESULT_MUST;
-            settle(&must, NO_CHOICE, table, count, note(&names, table, count))
+            settle(&must, NONE, NONE, table, count, note(&names, table, count))
         }
         26 => {
             let names = FLASH_REQUEST_RESULT_NAMES;
             let must = FLASH_REQUEST_RESULT_MUST;
-            settle(&must, NO_CHOICE, table, count, note(&names, table, count))
+            settle(&must, NONE, NONE, table, count, note(&names, table, count))
         }
         64 => {
             let names = ANALYZED_INFORMATION_RESULT_NAMES;
             let must = ANALYZED_INFORMATION_RESULT_MUST;
-            settle(&must, NO_CHOICE, table, count, note(&names, table, count))
+            settle(&must, NONE, NONE, table, count, note(&names, table, count))
         }
         101 => {
             let names = INTER_SYSTEM_SMS_PAGE_RESULT_NAMES;
             let must = INTER_SYSTEM_SMS_PAGE_RESULT_MUST;
-            settle(&must, NO_CHOICE, table, count, note(&names, table, count))
+            settle(&must, NONE, NONE, table, count, note(&names, table, count))
         }
         _ => Judged::NoRow,
     }
