@@ -12,7 +12,7 @@ use Rattle.component.specs.Needed.{octetsNeeded}
 use Rattle.operation.specs.Judge.{judge}
 use Rattle.operation.specs.Finding.{rowOf}
 use Rattle.operation.specs.Items.{itemsOf}
-use Rattle.operation.specs.Coded.{itemsFrom, verdict}
+use Rattle.operation.specs.inner.Coded.{itemsFrom, verdict}
 
 unfoldable pub weighing : (kind : ℕ) (id : D.Id) (specifier count : ℕ) (table : List ℕ) (source : Octets) → Answer ℕ
 weighing kind id specifier count table source = do
