@@ -10,7 +10,6 @@ pub mod Finding
 pub mod Reading
 pub mod Inside
 pub mod Writing
-pub mod Weighing
 pub mod Told
 pub mod Model
 pub mod Packed
