@@ -1,5 +1,5 @@
--- How the code holds a row and a run of parameters: the keys that a row names as a set, those that must occur as a list, the parameters as a table of
--- four numbers each.
+-- How the code holds a row and a run of parameters: the keys that a row names as a set, those that must occur as a
+-- list, the parameters as a table of four numbers each.
 use Prim.Native.Nat.{ℕ, zero, suc, _+_, _*_, _/_, _%_, _^_}
 use mathlib.Core.Path.{_≡_}
 use mathlib.Core.Bool.{Bool, true, false, _&&_, _||_, not}
@@ -51,7 +51,7 @@ unfoldable pub apart : (n : ℕ) → List ℕ → Bool
 apart n [] = true
 apart n (k ∷ ks) = (ltb (k / 64) n && not (among ks k)) && apart n ks
 
--- ---- what it asks for, in its order: of a choice the first key, and the other will do; no choice is of a key with itself
+-- ---- what it asks for, in its order: of a choice the first key, and the other will do; no choice is of one key twice
 unfoldable pub mustOf : Row → List ℕ
 mustOf [] = []
 mustOf (must j ∷ ls) = j ∷ mustOf ls
