@@ -401,6 +401,7 @@ static __attribute__((noinline)) size_t stack(char function, const struct call *
 {
     uintptr_t top = (uintptr_t)__builtin_frame_address(0);
 
+    sink += call(function, c);  /* what the linker binds at a first call is not the function's */
     paint();
     sink += call(function, c);
     return touched(top);

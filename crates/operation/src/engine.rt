@@ -128,8 +128,8 @@ fn first_missing(must: &[u16], one: u64, other: u64, seen: &[u64]) -> Missing
     answer
 }
 
-// 13 and 14 by what was noted. A row with no choice gives the same key twice. The two keys are numbers and no struct: the
-// compiler sees by them what an arm does not need, and so unrolls the rest there.
+// 13 and 14 by what was noted. A row with no choice gives the same key twice. The two keys are numbers and no struct:
+// by them the compiler sees what an arm does not need, and unrolls the rest there.
 pub(crate) fn settle(
     must: &[u16],
     one: u64,

@@ -44,9 +44,9 @@ pub(crate) const SMS_CAUSE_CODE: u16 = 306;
 
 pub(crate) const IMSI: u16 = 484;
 
-// ---- the rows. Of each first what must occur, in the paper's order, and of a choice its first member; then all that it
-// names, as a set: a word for 64 keys, so for 32 numbers, from number 0 on, and no word behind the last that is named.
-// `harness/rows` tells both of a row that was changed in the definitions.
+// ---- the rows. Of each first what must occur, in the paper's order, and of a choice its first member; then all that
+// it names, as a set: a word for 64 keys, so for 32 numbers, from number 0 on, and none behind the last that is not 0.
+// What a row must be here that was changed in the definitions is told by `harness/rows`.
 
 const HANDOFF_BACK_MUST: [u16; 5] = [
     CHANNEL_DATA,
@@ -175,8 +175,9 @@ const MIN_KEY: u64 = MIN as u64;
 
 const IMSI_KEY: u64 = IMSI as u64;
 
-// What the row of an invoke says of `count` entries of a table. The compiler unrolls `note` and `settle` in the arm whose
-// row it knows. A constant that is lent is stored where the function starts, and one that an arm copies there alone.
+// What the row of an invoke says of `count` entries of a table. The compiler unrolls `note` and `settle` in the arm,
+// where it knows the row. A constant that is lent is stored where the function starts, and one that an arm copies is
+// stored there alone.
 fn judge_invoke(specifier: u8, table: &[u16], count: usize) -> Judged
     requires { ⌜ (4 * count ≤ length (now table)) × (count ≤ 64) ⌝ }
     ensures { λ r. ⌜ judgedIn r ≡ verdict 0xE9 specifier (itemsFrom (now (table .entry)) 0 count) ⌝ }

@@ -1,14 +1,14 @@
--- How the code holds a row and a run of parameters: the keys that a row names as a set, those that must occur as a list, the parameters as a table of
--- four numbers each.
-use Prim.Native.Nat.{ℕ, _*_, zero, suc, _+_, _/_, _%_, _^_}
-use mathlib.Core.Bool.{_&&_, Bool, true, false, _||_, not}
+-- How the code holds a row and a run of parameters: the keys that a row names as a set, those that must occur as a
+-- list, the parameters as a table of four numbers each.
+use Prim.Native.Nat.{ℕ, zero, suc, _+_, _*_, _/_, _%_, _^_}
+use mathlib.Core.Path.{_≡_}
+use mathlib.Core.Bool.{Bool, true, false, _&&_, _||_, not}
 use mathlib.Core.List.{List, [], _∷_}
 use lib.ListN.{length, getD}
 use lib.Dec.{leb, eqb, ltb}
 use Rattle.element.specs.Octets.{if}
 use Rattle.element.specs.Answer.{Answer, accepted, _>>=_, _>>_, refused}
 use Rattle.operation.specs.Judge.{judge, countNamed}
-use mathlib.Core.Path.{_≡_}
 use Rattle.operation.specs.declared.Judged as J
 use Rattle.operation.specs.declared.Judged.the-variants as JV
 use Rattle.operation.specs.Row.{Row, must, oneOf, may, Item, key, named}
@@ -51,7 +51,7 @@ unfoldable pub apart : (n : ℕ) → List ℕ → Bool
 apart n [] = true
 apart n (k ∷ ks) = (ltb (k / 64) n && not (among ks k)) && apart n ks
 
--- ---- what it asks for, in its order: of a choice the first key, and the other will do; no choice is of a key with itself
+-- ---- what it asks for, in its order: of a choice the first key, and the other will do; no choice is of one key twice
 unfoldable pub mustOf : Row → List ℕ
 mustOf [] = []
 mustOf (must j ∷ ls) = j ∷ mustOf ls

@@ -37,12 +37,16 @@ pub record Walked (r : R.Repeat) (names seen : List ℕ) (xs : List Item) : Type
 -- 13 by what was noted
 unfoldable pub lacking : (list : List ℕ) (one other : ℕ) (seen : List ℕ) → Answer Unit
 lacking [] one other seen = accepted tt
-lacking (k ∷ ks) one other seen = check (holds seen k || (eqb k one && holds seen other)) 13 (numberOf k) >> lacking ks one other seen
+lacking (k ∷ ks) one other seen = do
+  check (holds seen k || (eqb k one && holds seen other)) 13 (numberOf k)
+  lacking ks one other seen
 
 abbrev pub missingIn : M.Missing → Answer Unit
 missingIn MV.None = accepted tt
 missingIn (MV.Number number) = refused 13 number
 
 -- 13 and 14 behind a walk, at any row that asks for what the list holds
-pub record Settles (noted : R.Repeat) (r : J.Judged) (list : List ℕ) (one other : ℕ) (seen : List ℕ) (xs : List Item) : Type 0 where
-  pub judged : (row : Row) → Asks row list one other → repeatIn noted ≡ onceCounted row xs → Noted noted row seen xs → judgedIn r ≡ judgement row xs
+pub record Settles (noted : R.Repeat) (r : J.Judged) (list : List ℕ) (one other : ℕ) (seen : List ℕ) (xs : List Item)
+    : Type 0 where
+  pub judged : (row : Row) → Asks row list one other → repeatIn noted ≡ onceCounted row xs → Noted noted row seen xs →
+      judgedIn r ≡ judgement row xs
