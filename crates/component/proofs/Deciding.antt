@@ -223,7 +223,7 @@ module _ (kind : ℕ) (typed : Typed kind) (s : Octets) (short : length s ≤ 40
       fine (b .c, record { laid = b .lays s (rw q (laid field f)); within = short; few = b .few })
   close {e} (a ∷ rest) w p o = fault (Faulty.whole short typed (leave p))
     where
-      leave : s ≡ e ++ (a ∷ rest) → Whole kind s 5 (0 + length e)
+      leave : s ≡ e ++ (a ∷ rest) → Whole kind s (component .rest) (0 + length e)
       leave p = rw p (Whole.left-over (left a rest w))
 
 pub decide : (s : Octets) → AreOctets s → Outcome s

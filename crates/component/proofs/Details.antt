@@ -19,7 +19,7 @@ use Rattle.component.proofs.Parts.{octets-between}
 
 -- `at` octets stand before these
 abbrev Listed : (at : ℕ) → Octets → (number detail : ℕ) → Type 0
-Listed at s n d = (0 < n) × (n < 19) × (d ≤ at + length s)
+Listed at s n d = (0 < n) × (n < 256) × (d ≤ at + length s)
 
 unheld : {head s : Octets} {at n d : ℕ} → Unheld component head at s n d → Listed at s n d
 unheld {head} (no-field s h) = omega (arith, length-append head s)
@@ -60,7 +60,7 @@ whole (Whole.unheld u) = unheld u
 whole (Whole.left-over f) = left-over f
 whole (Whole.inside {field = field} {body = body} l f) = omega (arith, length-append field body, no-body f)
 
-pub listed : {n d : ℕ} {s : Octets} → Faulty n d s → (0 < n) × (n < 19) × (d ≤ 4096)
+pub listed : {n d : ℕ} {s : Octets} → Faulty n d s → (0 < n) × (n < 256) × (d ≤ 4096)
 listed Faulty.empty = omega arith
 listed (Faulty.long h) = omega arith
 listed (Faulty.untyped h k) = omega arith

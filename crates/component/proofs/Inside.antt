@@ -59,7 +59,7 @@ module _ (s : Octets) (o : AreOctets s) where
   unfolding setAt
   set-inside {at} {end} {f} e =
       let (x, g, h) = taken (wanted s 0xF2 8 at end) e in
-      let (k, p) = passed (eqb (x .end) end) 5 (x .end) h in
+      let (k, p) = passed (eqb (x .end) end) _ (x .end) h in
       let y : x ≡ f = cc in
       rw (← y) (wanted-inside 0xF2 8 g, eqb-true (x .end) end k)
 

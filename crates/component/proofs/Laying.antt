@@ -39,7 +39,7 @@ parameter-within s at h k = simp (le-leb (length s) 4096, lt-ltb at (length s))
 
 pub parameter-placed : (s : Octets) → AreOctets s → {at : ℕ} {e : Entry} → parameterFrom s at ≡ accepted e → Placed at (length s) e
 unfolding parameterFrom
-parameter-placed s o {at} q = parameter-inside s o (passed (ltb at (length s)) 5 (length s) (passed (leb (length s) 4096) 2 0 q .1) .1)
+parameter-placed s o {at} q = parameter-inside s o (passed (ltb at (length s)) _ (length s) (passed (leb (length s) 4096) 2 0 q .1) .1)
 
 -- ---- the head, and the layout behind it
 module _ (s : Octets) (o : AreOctets s) where

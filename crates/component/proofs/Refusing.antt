@@ -124,7 +124,7 @@ module _ (s : Octets) (o : AreOctets s) where
 
   wanted-refused : {octet number at n d : ℕ} {t : Octets} → Unfound component octet number at t n d → Rest s at t → wanted s octet number at (length s) ≡ refused n d
   unfolding wanted
-  wanted-refused {at = at} ended r = let e : at ≡ length s = omega (arith, r .ends) in rw (le-ltb at (length s) (omega arith)) (ap (λ k. refused 5 k) (sym e))
+  wanted-refused {at = at} ended r = let e : at ≡ length s = omega (arith, r .ends) in rw (le-ltb at (length s) (omega arith)) (ap (λ k. refused (component .end) k) (sym e))
   wanted-refused {at = at} (other {a} h) r = rw (lt-ltb at (length s) (omega (arith, r .ends)), first s r, ne-eqb a _ h)
   wanted-refused {octet} {at = at} (Unfound.unheld f) r =
       let (u, e) = begun f in
@@ -163,7 +163,7 @@ module _ (s : Octets) (o : AreOctets s) where
         let (x, g, b) = wanted-found s 8 l r in
         let z = length-append e (a ∷ rest) in
         let h : x .end < length s = omega (arith, b .ends, r .ends) in
-        rw (g, ne-eqb (x .end) (length s) (omega arith)) (ap (λ k. refused 5 k) (b .ends))
+        rw (g, ne-eqb (x .end) (length s) (omega arith)) (ap (λ k. refused (component .rest) k) (b .ends))
     set-refused {at} (NoSet.inside {field} {set} f i) r =
         let q = again s {u = (0xF2 ∷ (field ++ set)) ++ []} (sym (append-nil _)) r in
         let (x, g, b) = wanted-found s 8 (laid field f) q in
@@ -239,7 +239,7 @@ module _ (s : Octets) (o : AreOctets s) (short : length s ≤ 4096) (some : 0 < 
   unfolding layoutAt layoutBehind headAt headFrom
   opened typed e = rw (lt-ltb 0 (length s) some, le-leb (length s) 4096 short, known typed, e)
 
-  longer : F.Typed (getD s 0 0) → {x : Span} → contents s 0 1 (length s) ≡ accepted x → x .end < length s → layoutOf s ≡ refused 5 (x .end)
+  longer : F.Typed (getD s 0 0) → {x : Span} → contents s 0 1 (length s) ≡ accepted x → x .end < length s → layoutOf s ≡ refused (component .rest) (x .end)
   unfolding layoutAt layoutBehind headAt headFrom
   longer typed {x} e h = rw (lt-ltb 0 (length s) some, le-leb (length s) 4096 short, known typed, e, ne-eqb (x .end) (length s) (omega arith))
 
@@ -262,7 +262,7 @@ module _ (s : Octets) (o : AreOctets s) (short : length s ≤ 4096) (some : 0 < 
       let (u, h) = begins l (a ∷ rest) in
       let z = length-append e (a ∷ rest) in
       let k : x .end ≡ length e = b .ends ∙ zero-add (length e) in
-      longer (rw (← first s (again s h r)) at typed) g (omega (arith, r .ends)) ∙ ap (λ k. refused 5 k) (b .ends)
+      longer (rw (← first s (again s h r)) at typed) g (omega (arith, r .ends)) ∙ ap (λ k. refused (component .rest) k) (b .ends)
   whole-refused {kind} p typed (Whole.inside {field} {body} f h) =
       let r = again s p (all s) in
       let q = again s (sym (append-nil _)) r in
