@@ -11,7 +11,7 @@ use native.Mathlib.Numerals.{add-one}
 use Rattle.element.specs.Octets.{if}
 use Rattle.operation.specs.Row.{Line, oneOf, Item, onLine}
 use Rattle.operation.specs.Judge.{occurs, lastMark}
-use Rattle.operation.specs.Coded.{itemAt, itemsFrom}
+use Rattle.operation.specs.inner.Coded.{itemAt, itemsFrom}
 
 -- of `count` entries those from `at` on
 abbrev pub rest : (table : List ℕ) (count at : ℕ) → List Item

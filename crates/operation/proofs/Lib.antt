@@ -1,3 +1,4 @@
+pub mod Newcomers
 pub mod Lines
 pub mod Untouched
 pub mod Marks

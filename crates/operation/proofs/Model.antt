@@ -9,10 +9,9 @@ use native.Mathlib.Decide.{decLt, decLe, ℕ-discrete}
 use native.Mathlib.Omega.{arith}
 use Rattle.element.specs.Octets.{Octets, AreOctets}
 use Rattle.element.specs.Answer.{Answer, accepted, refused}
-use Rattle.component.specs.Layout.{Layout, layoutOf}
+use Rattle.component.specs.Layout.{Layout, layoutOf, specifierIn}
 use Rattle.component.specs.Grammar.{Laid, Component, parametersOf, kindOf, identifierOf, specifierOf}
 use Rattle.component.specs.Faults.{Typed, Allowed}
-use Rattle.component.specs.Shown.{specifierIn}
 use Rattle.component.specs.Standing.{standing}
 use Rattle.component.specs.Table.{parametersFrom, idOf, tableWith}
 use Rattle.component.specs.Composing.{written, outputAfter}

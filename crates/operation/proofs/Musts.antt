@@ -12,8 +12,8 @@ use native.Mathlib.Numerals.{add-one}
 use Rattle.element.specs.Answer.{Answer, accepted, refused}
 use Rattle.operation.specs.Row.{Row, Line, must, oneOf, may, Item, onLine, named, numberOf}
 use Rattle.operation.specs.Judge.{occurs, lastMark, present, single}
-use Rattle.operation.specs.Coded.{holds, mustOf, between, choice, Asks}
-use Rattle.operation.specs.Firsts.{lacking}
+use Rattle.operation.specs.inner.Coded.{holds, mustOf, between, choice, Asks}
+use Rattle.operation.specs.inner.Firsts.{lacking}
 use Rattle.operation.proofs.Lines.{self}
 use Rattle.operation.proofs.Sets.{each}
 

@@ -11,8 +11,8 @@ use native.Mathlib.Omega.{arith}
 use native.Mathlib.Numerals.{add-one}
 use Rattle.operation.specs.Row.{Row, named, repeats}
 use Rattle.operation.specs.Judge.{occurs}
-use Rattle.operation.specs.Coded.{holds, Names, itemAt, itemsFrom}
-use Rattle.operation.specs.Firsts.{onceCounted}
+use Rattle.operation.specs.inner.Coded.{holds, Names, itemAt, itemsFrom}
+use Rattle.operation.specs.inner.Firsts.{onceCounted}
 use Rattle.operation.proofs.Entries as E
 use Rattle.operation.proofs.Entries.{rest, earlier, all, over, more}
 use Rattle.operation.proofs.Repeats.{left}

@@ -11,10 +11,9 @@ use native.Mathlib.Decide.{decLt}
 use native.Mathlib.Omega.{arith}
 use Rattle.element.specs.Octets.{Octets, AreOctets}
 use Rattle.element.specs.Answer.{Answer, accepted, refused, _>>=_, _>>_, check}
-use Rattle.component.specs.Layout.{Layout, layoutOf}
+use Rattle.component.specs.Layout.{Layout, layoutOf, specifierIn}
 use Rattle.component.specs.Grammar.{Parameter, Component, kindOf, specifierOf}
 use Rattle.component.specs.Faults.{LaidOut, Typed, Allowed}
-use Rattle.component.specs.Shown.{specifierIn}
 use Rattle.component.specs.Standing.{standing, specifierPlace}
 use Rattle.component.specs.Composed.{composed}
 use Rattle.component.specs.Table.{parametersFrom, tableWith}

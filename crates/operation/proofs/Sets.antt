@@ -13,7 +13,7 @@ use native.Mathlib.Omega.{arith}
 use native.Mathlib.Nat.{pow-suc, pow-succ', zero-add, add-zero, add-comm, one-mul, mod-eq-of-lt, div-div-eq-div-mul}
 use Rattle.element.specs.Octets.{if}
 use Rattle.operation.specs.Row.{Row, must, oneOf, may, onLine, named}
-use Rattle.operation.specs.Coded.{bit, holds, Names, keysIn, wordOf, wordsFrom, wordsOf, among, apart}
+use Rattle.operation.specs.inner.Coded.{bit, holds, Names, keysIn, wordOf, wordsFrom, wordsOf, among, apart}
 
 pub each : (a b : Bool) → (a && b) ≡ true → (a ≡ true) × (b ≡ true)
 each true b e = (refl, e)

@@ -10,8 +10,8 @@ use Rattle.element.specs.Answer.{accepted, refused}
 use Rattle.operation.specs.Row.{Row, Item, oneOf, named}
 use Rattle.operation.specs.Judge.{occurs, lastMark, present}
 use Rattle.operation.specs.Finding.{rowOf}
-use Rattle.operation.specs.Coded.{holds, keysIn, wordsOf, apart, mustOf, between, sound, Asks, judgement, verdict, judgedIn}
-use Rattle.operation.specs.Firsts.{onceCounted, repeatIn, Noted, lacking, Walked, Settles}
+use Rattle.operation.specs.inner.Coded.{holds, keysIn, wordsOf, apart, mustOf, between, sound, Asks, judgement, verdict, judgedIn}
+use Rattle.operation.specs.inner.Firsts.{onceCounted, repeatIn, Noted, lacking, Walked, Settles}
 use Rattle.operation.specs.declared.Judged as J
 use Rattle.operation.specs.declared.Repeat as R
 use Rattle.operation.specs.declared.Repeat.the-variants as RV

@@ -12,7 +12,7 @@ use Rattle.element.specs.Answer.{Answer, accepted, refused}
 use Rattle.component.specs.Table.{tableWith}
 use Rattle.component.specs.Grammar.{Parameter, Component, parametersOf, kindOf, identifierOf, specifierOf}
 use Rattle.component.specs.Faults.{LaidOut}
-use Rattle.component.specs.Shown.{Shows, Pairwise}
+use Rattle.component.proofs.Shown.{Shows, Pairwise}
 use Rattle.component.specs.Standing.{standing}
 use Rattle.component.proofs.Complete.{complete}
 use Rattle.operation.specs.Row.{Row, named as names}

@@ -7,16 +7,11 @@ pub mod Caller
 pub mod Demands
 pub mod Judge
 pub mod Finding
-pub mod Newcomers
-pub mod Coded
-pub mod Firsts
 pub mod Reading
 pub mod Inside
 pub mod Writing
-pub mod Weighing
 pub mod Told
-pub mod Sheet
-pub mod Finishing
 pub mod Model
 pub mod Packed
 pub mod Charts
+pub mod inner

@@ -9,8 +9,8 @@ ghost use Prim.Native.Nat.{_+_, _*_, _<_, _≤_};
 ghost use lib.ListN.{length};
 ghost use Rattle.operation.specs.Row.{oneOf};
 ghost use Rattle.operation.specs.Judge.{lastMark};
-ghost use Rattle.operation.specs.Coded.{holds, itemAt, itemsFrom};
-ghost use Rattle.operation.specs.Firsts.{missingIn, lacking, Walked, Settles};
+ghost use Rattle.operation.specs.inner.Coded.{holds, itemAt, itemsFrom};
+ghost use Rattle.operation.specs.inner.Firsts.{missingIn, lacking, Walked, Settles};
 
 // ---- a set of keys, and an entry of a table
 

@@ -17,8 +17,8 @@ ghost use mathlib.Core.Path.{_≡_};
 ghost use Prim.Native.Nat.{_*_, _<_, _≤_};
 ghost use lib.ListN.{length};
 ghost use Rattle.component.specs.Told.{countIn};
-ghost use Rattle.operation.specs.Coded.{judgedIn};
-ghost use Rattle.operation.specs.Finishing.{
+ghost use Rattle.operation.specs.inner.Coded.{judgedIn, said};
+ghost use Rattle.operation.specs.inner.Finishing.{
   specifierFor,
   placeFrom,
   Pointing,
@@ -27,7 +27,7 @@ ghost use Rattle.operation.specs.Finishing.{
 };
 ghost use Rattle.operation.specs.Caller.{order};
 ghost use Rattle.operation.specs.Reading.{readingAt, tableAfter};
-ghost use Rattle.operation.specs.Weighing.{said, weighing};
+ghost use Rattle.operation.specs.Writing.{weighing};
 ghost use Rattle.operation.specs.Model.{reader, writer};
 ghost use Rattle.operation.specs.Told.{told, answerIn, writtenIn};
 

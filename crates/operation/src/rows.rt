@@ -6,7 +6,7 @@ use super::names;
 ghost use mathlib.Core.Path.{_≡_};
 ghost use Prim.Native.Nat.{_*_, _≤_};
 ghost use lib.ListN.{length};
-ghost use Rattle.operation.specs.Coded.{itemsFrom, verdict, judgedIn};
+ghost use Rattle.operation.specs.inner.Coded.{itemsFrom, verdict, judgedIn};
 
 // ---- the register: the number twice, for all are primitive
 

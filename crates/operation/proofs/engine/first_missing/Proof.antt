@@ -6,7 +6,7 @@ use mathlib.Core.Path.{_≡_, refl, sym, _∙_}
 use lib.ListN.{length}
 use borrow.Author.Needs.{needs}
 use borrow.Author.Tests.{not-true, not-false}
-use Rattle.operation.specs.Firsts.{lacking}
+use Rattle.operation.specs.inner.Firsts.{lacking}
 use Rattle.operation.proofs.Musts.{lackingFrom, none-left, noted, not-one, other-noted, neither}
 use Rattle.operation.proofs.engine.first_missing.Statement.{statement}
 use Rattle.operation.proofs.engine.first_missing.Tie as tie

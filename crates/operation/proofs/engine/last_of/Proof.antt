@@ -5,7 +5,7 @@ use mathlib.Core.Path.{_≡_, refl, sym, ap, _∙_}
 use borrow.Author.Needs.{needs}
 use Rattle.operation.specs.Row.{oneOf}
 use Rattle.operation.specs.Judge.{lastMark}
-use Rattle.operation.specs.Coded.{itemsFrom}
+use Rattle.operation.specs.inner.Coded.{itemsFrom}
 use Rattle.operation.proofs.Entries.{rest, all, is-one, is-other, is-neither, last-known, last-here, last-other}
 use Rattle.operation.proofs.engine.last_of.Statement.{statement}
 use Rattle.operation.proofs.engine.last_of.Tie as tie

@@ -4,7 +4,7 @@
 use mathlib.Core.Path.{sym, ap, _∙_}
 use borrow.Author.Tests.{ne-eqb, eqb-false}
 use Rattle.element.specs.Answer.{refused}
-use Rattle.operation.specs.Firsts.{repeatIn, missingIn}
+use Rattle.operation.specs.inner.Firsts.{repeatIn, missingIn}
 use Rattle.operation.proofs.Settling as S
 use Rattle.operation.proofs.Verdicts.{again}
 use borrow.Author.Needs.{needs}

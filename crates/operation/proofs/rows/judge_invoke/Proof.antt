@@ -6,7 +6,7 @@ use borrow.Author.Needs.{needs}
 use Rattle.operation.specs.Row.{key}
 use Rattle.operation.specs.Finding.{rowOf, find}
 use Rattle.operation.specs.Rows.{operations}
-use Rattle.operation.specs.Coded.{keysIn, wordOf, wordsFrom, wordsOf, among, apart, mustOf, between, choice, sound}
+use Rattle.operation.specs.inner.Coded.{keysIn, wordOf, wordsFrom, wordsOf, among, apart, mustOf, between, choice, sound}
 use Rattle.operation.proofs.Settling.{arm}
 use Rattle.operation.proofs.Verdicts.{no-invoke}
 use Rattle.operation.proofs.rows.judge_invoke.Statement.{statement}

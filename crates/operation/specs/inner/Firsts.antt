@@ -7,7 +7,7 @@ use lib.Dec.{eqb}
 use Rattle.element.specs.Answer.{Answer, accepted, refused, _>>=_, _>>_, check}
 use Rattle.operation.specs.Row.{Row, Item, numberOf, named}
 use Rattle.operation.specs.Judge.{occurs, once, countNamed}
-use Rattle.operation.specs.Coded.{holds, Names, Asks, judgement, judgedIn}
+use Rattle.operation.specs.inner.Coded.{holds, Names, Asks, judgement, judgedIn}
 use Rattle.operation.specs.declared.Judged as J
 use Rattle.operation.specs.declared.Repeat as R
 use Rattle.operation.specs.declared.Repeat.the-variants as RV

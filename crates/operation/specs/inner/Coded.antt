@@ -4,14 +4,14 @@ use Prim.Native.Nat.{ℕ, zero, suc, _+_, _*_, _/_, _%_, _^_}
 use mathlib.Core.Path.{_≡_}
 use mathlib.Core.Bool.{Bool, true, false, _&&_, _||_, not}
 use mathlib.Core.List.{List, [], _∷_}
-use lib.ListN.{getD}
-use lib.Dec.{eqb, ltb}
+use lib.ListN.{length, getD}
+use lib.Dec.{leb, eqb, ltb}
 use Rattle.element.specs.Octets.{if}
-use Rattle.element.specs.Answer.{Answer, accepted, refused, _>>=_, _>>_}
+use Rattle.element.specs.Answer.{Answer, accepted, _>>=_, _>>_, refused}
+use Rattle.operation.specs.Judge.{judge, countNamed}
 use Rattle.operation.specs.declared.Judged as J
 use Rattle.operation.specs.declared.Judged.the-variants as JV
 use Rattle.operation.specs.Row.{Row, must, oneOf, may, Item, key, named}
-use Rattle.operation.specs.Judge.{judge, countNamed}
 use Rattle.operation.specs.Finding.{rowOf}
 
 -- ---- what a row names, as a set of keys: one bit for each, 64 to a word; a key beyond the words is not in it
@@ -109,3 +109,8 @@ judgedIn JV.NoRow = refused 11 0
 judgedIn (JV.Again entry) = refused 12 entry
 judgedIn (JV.Missing number) = refused 13 number
 judgedIn (JV.Both entry) = refused 14 entry
+
+-- what the row says of the entries of a table, where the table has room for them
+unfoldable pub said : (kind specifier count : ℕ) (table : List ℕ) → Answer ℕ
+said kind specifier count table =
+    if (leb count 64 && leb (4 * count) (length table)) (verdict kind specifier (itemsFrom table 0 count)) (accepted 0)
