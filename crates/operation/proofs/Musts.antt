@@ -2,7 +2,7 @@
 -- Assumes nothing.
 use Prim.Native.Nat.{ℕ, _+_, _/_, _<_, _≤_}
 use mathlib.Core.Path.{_≡_, refl, sym, _∙_}
-use mathlib.Core.Bool.{Bool, true, false, _&&_, _||_, not, true≢false, or-true}
+use mathlib.Core.Bool.{Bool, true, false, _&&_, _||_, not, true≢false, or-true, or-false, or-self}
 use mathlib.Core.List.{List, [], _∷_}
 use lib.ListN.{length, getD, drop, drop-of-length-le}
 use lib.Seq.{drop-cons}
@@ -49,14 +49,6 @@ module _ (list : List ℕ) (one other : ℕ) (seen : List ℕ) where
 
 -- ---- against the row
 
-twice : (a : Bool) → (a || a) ≡ a
-twice true = refl
-twice false = refl
-
-or-no : (a : Bool) → (a || false) ≡ a
-or-no true = refl
-or-no false = refl
-
 module _ (one other : ℕ) (seen : List ℕ) (xs : List Item) where
   -- what lines name is noted as it occurs
   abbrev Known : Row → Type 0
@@ -74,8 +66,8 @@ module _ (one other : ℕ) (seen : List ℕ) (xs : List Item) where
   alone j h = by (eqb j one) refl h
     where
       by : (t : Bool) → eqb j one ≡ t → (eqb one other || not t) ≡ true → (holds seen j || (t && holds seen other)) ≡ holds seen j
-      by true e h = let f = eqb-true one other (sym (or-no (eqb one other)) ∙ h) in rw (eqb-true j one e, f) (twice (holds seen other))
-      by false e h = or-no (holds seen j)
+      by true e h = let f = eqb-true one other (sym (or-false (eqb one other)) ∙ h) in rw (eqb-true j one e, f) (or-self (holds seen other))
+      by false e h = or-false (holds seen j)
 
   asked : (ls : Row) → Known ls → between one other ls ≡ true → lacking (mustOf ls) one other seen ≡ present ls xs
   unfolding lacking mustOf present between onLine

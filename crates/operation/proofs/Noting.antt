@@ -2,7 +2,7 @@
 -- Assumes nothing.
 use Prim.Native.Nat.{ℕ, zero, suc, _+_, _/_, _%_, _^_, _<_, _≤_}
 use mathlib.Core.Path.{_≡_, refl, sym, ap, _∙_}
-use mathlib.Core.Bool.{Bool, true, false, _&&_, _||_, not, and-false, or-false}
+use mathlib.Core.Bool.{Bool, true, false, _&&_, _||_, not, and-false, or-false, or-comm, or-assoc}
 use mathlib.Core.List.{List, _∷_}
 use lib.ListN.{length, getD, set, replicate}
 use lib.Dec.{eqb}
@@ -21,10 +21,7 @@ use Rattle.operation.proofs.Sets.{each, empty, one-more}
 
 -- two items in the other order
 swapped : (a b c : Bool) → ((a || b) || c) ≡ (b || (a || c))
-swapped true true c = refl
-swapped true false c = refl
-swapped false true c = refl
-swapped false false c = refl
+swapped a b c = ap (λ t. t || c) (or-comm a b) ∙ or-assoc b a c
 
 occurred : (t : List ℕ) (count k at : ℕ) → at ≤ count → (occurs k (earlier t at) || occurs k (rest t count at)) ≡ occurs k (itemsFrom t 0 count)
 unfolding earlier occurs

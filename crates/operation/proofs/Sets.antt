@@ -2,7 +2,7 @@
 -- Assumes nothing.
 use Prim.Native.Nat.{ℕ, zero, suc, _+_, _*_, _/_, _%_, _^_, _<_, _≤_}
 use mathlib.Core.Path.{_≡_, refl, sym, ap, _∙_}
-use mathlib.Core.Bool.{Bool, true, false, _&&_, _||_, not, true≢false}
+use mathlib.Core.Bool.{Bool, true, false, _&&_, _||_, not, true≢false, or-assoc}
 use mathlib.Core.List.{List, [], _∷_}
 use lib.ListN.{length, getD, set, replicate, List·getD-eq-default}
 use lib.Seq.{getD-set-same, getD-set-other}
@@ -192,10 +192,6 @@ unfolding wordsFrom
 from ks i zero d h = absurd (omega arith)
 from ks i (suc n) zero h = ap (wordOf ks) (sym (add-zero i))
 from ks i (suc n) (suc d) h = from ks (i + 1) n d (omega arith) ∙ ap (wordOf ks) (omega arith)
-
-or-assoc : (a b c : Bool) → ((a || b) || c) ≡ (a || (b || c))
-or-assoc true b c = refl
-or-assoc false b c = refl
 
 names : (row : Row) (k : ℕ) → among (keysIn row) k ≡ named row k
 unfolding keysIn among named onLine

@@ -191,14 +191,8 @@ fn judge_invoke(specifier: u8, table: &[u16], count: usize) -> Judged
         13 => {
             let names = REGISTRATION_NOTIFICATION_NAMES;
             let must = REGISTRATION_NOTIFICATION_MUST;
-            settle(
-                &must,
-                MIN_KEY,
-                IMSI_KEY,
-                table,
-                count,
-                note(&names, table, count),
-            )
+            let notes = note(&names, table, count);
+            settle(&must, MIN_KEY, IMSI_KEY, table, count, notes)
         }
         15 => {
             let names = LOCATION_REQUEST_NAMES;

@@ -18,7 +18,7 @@ returns c = arm 0xE9 (c .before .before .before .before .match .keys1) refl refl
 
 returns-2 : tie.Need-returns-2
 unfolding rowOf find operations key keysIn wordOf wordsFrom wordsOf among apart mustOf between choice sound
-returns-2 c = arm 0xE9 (c .before .before .before .before .match .keys2) refl refl refl refl (c .before .note2 .ensures) (c .settle2 .ensures)
+returns-2 c = arm 0xE9 (c .before .before .before .before .match .keys2) refl refl refl refl (c .before .before .note2 .ensures) (c .settle2 .ensures)
 
 returns-3 : tie.Need-returns-3
 unfolding rowOf find operations key keysIn wordOf wordsFrom wordsOf among apart mustOf between choice sound
@@ -45,7 +45,7 @@ judge-invoke-spec =
     tie.close
     (tie.spec
     (λ c. search needs) (λ c. search needs) (λ c κs. search needs) (λ c κs. search needs)
-    (λ c. search needs) (λ c. search needs) (λ c κs. search needs) (λ c κs. search needs)
+    (λ c. search needs) (λ c κs. search needs) (λ c. search needs) (λ c κs. search needs)
     (λ c. search needs) (λ c. search needs) (λ c κs. search needs) (λ c κs. search needs)
     (λ c. search needs) (λ c. search needs) (λ c κs. search needs) (λ c κs. search needs)
     (λ c. search needs) (λ c. search needs) (λ c κs. search needs) (λ c κs. search needs)
