@@ -7,7 +7,7 @@
  *   caller size CASE [FILE]                    octets, parameters, components
  *   caller stack FUNCTION CASE [FILE]          how deep a call touched the stack at most, in octets
  *
- * FUNCTION is read, write, plain or none. CASE is a name from `make`, or `mixed`:
+ * FUNCTION is read, write, plain, tuned or none. CASE is a name from `make`, or `mixed`:
  * the reads of a stream of the second program, 7 accepted for 3 refused, and
  * for the writer its writes. No buffer is cleared between two calls.
  */
@@ -20,6 +20,8 @@
 #include <time.h>
 
 extern uint64_t plain_read(const uint8_t *component, size_t octets, uint8_t specifier,
+                           uint16_t *table, size_t numbers);
+extern uint64_t tuned_read(const uint8_t *component, size_t octets, uint8_t specifier,
                            uint16_t *table, size_t numbers);
 
 #define MOST 2000
@@ -192,8 +194,9 @@ static void add_component(const char *name)
     got = roadquill_read(made, made_count, c->specifier, entries, ROADQUILL_NUMBERS);
     if (roadquill_answer(got) != ROADQUILL_ACCEPTED)
         stop("a case is not accepted");
-    if (got != plain_read(made, made_count, c->specifier, table, ROADQUILL_NUMBERS))
-        stop("the two readers differ");
+    if (got != plain_read(made, made_count, c->specifier, table, ROADQUILL_NUMBERS)
+        || got != tuned_read(made, made_count, c->specifier, table, ROADQUILL_NUMBERS))
+        stop("the readers differ");
     c->head[0] = roadquill_type(got);
     c->head[1] = roadquill_id_count(got);
     c->head[2] = roadquill_id_first(got);
@@ -312,6 +315,8 @@ static uint64_t call(char function, const struct call *c)
                                c->output_octets);
     case 'p':
         return plain_read(c->octets, c->count, c->specifier, table, ROADQUILL_NUMBERS);
+    case 't':
+        return tuned_read(c->octets, c->count, c->specifier, table, ROADQUILL_NUMBERS);
     default:
         return 0;
     }
@@ -396,6 +401,7 @@ static __attribute__((noinline)) size_t stack(char function, const struct call *
 {
     uintptr_t top = (uintptr_t)__builtin_frame_address(0);
 
+    sink += call(function, c);  /* what the linker binds at a first call is not the function's */
     paint();
     sink += call(function, c);
     return touched(top);

@@ -14,12 +14,12 @@ use Rattle.element.specs.Answer.{Answer, accepted, _>>=_}
 use Rattle.element.specs.Identifier.{IdentifierField}
 use Rattle.element.proofs.LengthLaws as L
 use Rattle.element.proofs.IdentifierLaws as I
-use Rattle.component.specs.Layout.{Span, contents, spanOf, wanted, setAt, operation, invoke, result, Head, headOf, headAt, headFrom, parameter, parameterAt, parameters, Layout, layoutOf, layoutAt, layoutBehind}
+use Rattle.component.specs.Layout.{Span, contents, spanOf, wanted, setAt, operation, invoke, result, Head, headOf, headAt, headFrom, parameter, parameterAt, parameters, Layout, layoutOf, layoutAt, layoutBehind, specifierIn}
 use Rattle.component.specs.Table.{Entry, next}
 use Rattle.component.specs.Grammar.{Parameter, Element, laid, Parameters, Component, Laid, invoked, answered, parametersOf, kindOf, identifierOf, specifierOf}
 use Rattle.component.specs.Grammar as G
-use Rattle.component.specs.Shown.{Shows, Pairwise, Outlines, specifierIn}
-use Rattle.component.specs.Shown as S
+use Rattle.component.proofs.Shown.{Shows, Pairwise, Outlines}
+use Rattle.component.proofs.Shown as S
 use Rattle.component.specs.Standing.{entryAt, entriesAt, standing, specifierPlace}
 
 -- an answer that accepts what `P` holds of, step by step

@@ -11,7 +11,7 @@ use Rattle.element.proofs.LengthLaws.{unique, bounded}
 use Rattle.element.proofs.IdentifierLaws as I
 use Rattle.component.specs.Grammar.{Parameter, Element, laid, Parameters, none, more, Component, Invoke, Result, Laid, invoked, answered, parametersOf}
 use Rattle.component.specs.Composed.{element, setOf, composed}
-use Rattle.component.specs.Composable.{Composable, Typed, Identified}
+use Rattle.component.proofs.Composable.{Composable, Typed, Identified}
 
 -- ---- composed
 within : (head body : Octets) → length body ≤ length (element head body)

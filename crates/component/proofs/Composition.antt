@@ -17,7 +17,7 @@ use Rattle.component.specs.Composed.{element, setOf, composed}
 use Rattle.component.specs.Needed.{elementSize, setSize, bodySize, octetsNeeded}
 use Rattle.component.specs.Composing.{idFits}
 use Rattle.component.specs.Table.{idOctets, componentOf}
-use Rattle.component.specs.Emitting.{operationOctets, headOctets}
+use Rattle.component.specs.inner.Emitting.{operationOctets, headOctets}
 use Rattle.component.proofs.Putting.{part-length}
 use Rattle.component.proofs.Sizes.{element-length, same-set}
 

@@ -15,7 +15,7 @@ use Rattle.component.specs.Part.{fits}
 use Rattle.component.specs.Table.{entryOf}
 use Rattle.component.specs.Composing.{entryStands, entriesFrom}
 use Rattle.component.specs.Needed.{elementSize, setSize}
-use Rattle.component.specs.Emitting.{sized}
+use Rattle.component.specs.inner.Emitting.{sized}
 use Rattle.component.proofs.Putting.{part-length}
 
 both : (a b : Bool) → (a && b) ≡ true → (a ≡ true) × (b ≡ true)

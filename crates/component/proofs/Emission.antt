@@ -13,7 +13,7 @@ use Rattle.component.specs.Grammar.{Parameter}
 use Rattle.component.specs.Composed.{element, setOf}
 use Rattle.component.specs.Table.{parametersFrom, entryOf}
 use Rattle.component.specs.Composing.{entryStands, entriesFrom}
-use Rattle.component.specs.Emitting.{Put, AllStand}
+use Rattle.component.specs.inner.Emitting.{Put, AllStand}
 use Rattle.component.proofs.Putting.{Left, goes-on}
 use Rattle.component.proofs.Taken.{taken, passed}
 

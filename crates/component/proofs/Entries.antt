@@ -12,8 +12,8 @@ use Rattle.element.specs.Octets.{Octets}
 use Rattle.element.specs.Answer.{accepted}
 use Rattle.component.specs.Table.{Entry, numbers, tableWith, entryOf}
 use Rattle.component.specs.Grammar.{Parameter}
-use Rattle.component.specs.Shown.{Shows, Pairwise, none, more}
-use Rattle.component.specs.Composable.{Identified}
+use Rattle.component.proofs.Shown.{Shows, Pairwise, none, more}
+use Rattle.component.proofs.Composable.{Identified}
 use Rattle.component.specs.Part.{fits}
 use Rattle.component.specs.Composing.{entryStands, entriesFrom}
 use Rattle.component.proofs.Taken.{taken, passed}

@@ -13,7 +13,7 @@ use Rattle.component.specs.declared.Heading as G
 use Rattle.component.specs.Table.{Entry}
 use Rattle.component.specs.Layout.{Span, sizeOf, contents, wanted, setAt, Head, operation, invoke, result, headFrom, headAt, parameterAt, parameterFrom, parameters, Layout, layoutBehind, layoutAt}
 use Rattle.component.specs.Outline.{headingOf, headed, headingsAt}
-use Rattle.component.specs.Shown.{Contiguous}
+use Rattle.component.proofs.Shown.{Contiguous}
 use Rattle.component.proofs.Ends.{Ends, gives, given, then, below, at-most, equal, either}
 use Rattle.component.proofs.Asking.{Any, any}
 use Rattle.component.proofs.Taken.{taken, passed, stopped}

@@ -1,3 +1,5 @@
+pub mod Composable
+pub mod Shown
 pub mod Parts
 pub mod Fitting
 pub mod Ends

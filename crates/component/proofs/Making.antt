@@ -13,9 +13,9 @@ use Rattle.element.specs.Answer.{accepted}
 use Rattle.component.specs.declared.Id as D
 use Rattle.component.specs.Table.{Entry, idOf, tableWith, idOctets, componentOf}
 use Rattle.component.specs.Grammar.{Parameter, Component, Invoke, Result, parametersOf, kindOf, identifierOf, specifierOf}
-use Rattle.component.specs.Shown.{Shows, Pairwise}
+use Rattle.component.proofs.Shown.{Shows, Pairwise}
 use Rattle.component.specs.Composed.{composed}
-use Rattle.component.specs.Composable.{Composable, Typed, Identified}
+use Rattle.component.proofs.Composable.{Composable, Typed, Identified}
 use Rattle.component.specs.Composing.{entriesFrom, idFits, entriesOf, octetsOf}
 use Rattle.component.specs.Needed.{octetsNeeded}
 use Rattle.component.proofs.Composition.{Kinds, id-length}

@@ -14,7 +14,7 @@ use Rattle.component.specs.Composed.{setOf, composed}
 use Rattle.component.specs.Needed.{setSize, bodySize, octetsNeeded}
 use Rattle.component.specs.Composing.{entriesOf, Sizes, measured, octetsOf, composing, written, outputAfter}
 use Rattle.component.specs.Table.{parametersFrom, componentOf}
-use Rattle.component.specs.Emitting.{Put, headOctets, AllStand}
+use Rattle.component.specs.inner.Emitting.{Put, headOctets, AllStand}
 use Rattle.component.proofs.Putting.{then}
 use Rattle.component.proofs.Composition as composition
 use Rattle.component.proofs.Taken.{taken, stopped}

@@ -11,7 +11,7 @@ use Rattle.element.specs.Octets.{Octets, AreOctets}
 use Rattle.element.specs.Field.{put}
 use Rattle.element.specs.Encoded.{fieldOf, octetsIn}
 use Rattle.element.proofs.FieldLaws.{put-put, put-again, put-none, put-stores, put-length, held}
-use Rattle.component.specs.Emitting.{Put}
+use Rattle.component.specs.inner.Emitting.{Put}
 
 pub part-length : (s : Octets) (start size : ℕ) → start + size ≤ length s → length (take size (drop start s)) ≡ size
 part-length s start size h = length-take-le size (drop start s) (simp length-drop (omega arith))

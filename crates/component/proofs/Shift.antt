@@ -17,8 +17,7 @@ use Rattle.element.specs.Octets.{Octets, if, between}
 use Rattle.element.specs.Answer.{Answer, accepted, refused, _>>=_, _>>_, check}
 use Rattle.element.specs.Decoded.{lengthAt, identifierAt}
 use Rattle.component.specs.Table.{next}
-use Rattle.component.specs.Layout.{Span, sizeOf, spanOf, contents, wanted, setAt, operation, invoke, result, Head, headFrom, parameter, parameterAt, parameters, Layout, layoutBehind, layoutFrom}
-use Rattle.component.specs.Shown.{specifierIn}
+use Rattle.component.specs.Layout.{Span, sizeOf, spanOf, contents, wanted, setAt, operation, invoke, result, Head, headFrom, parameter, parameterAt, parameters, Layout, layoutBehind, layoutFrom, specifierIn}
 use Rattle.component.specs.Onward.{spanOn, entryOn, headOn, layoutOn, answerOn, keeps}
 
 -- ---- tests of two places that are moved alike

@@ -8,7 +8,7 @@ use Rattle.element.specs.Octets.{Octets, AreOctets}
 use Rattle.element.proofs.Reading.{most}
 use Rattle.component.specs.Table.{Entry, next}
 use Rattle.component.specs.Layout.{parameterAt, parameters}
-use Rattle.component.specs.Shown.{Contiguous}
+use Rattle.component.proofs.Shown.{Contiguous}
 use Rattle.component.proofs.Ends.{Ends, gives, then, at-most}
 use Rattle.component.proofs.Asking.{Any, any}
 use Rattle.component.proofs.Inside.{Placed, parameter-inside}

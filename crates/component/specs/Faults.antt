@@ -1,5 +1,7 @@
--- The faults of a component, the twin of `Laid`: which octets have the paper's `number` and `detail`. What is laid out stands first, and
--- behind it what cannot be; `at` counts the octets before it. E9, EA and F2 end where their parent ends, so every parent ends with the octets.
+-- The faults of a component, the twin of `Laid`: which octets have the paper's `number` and `detail`. What is laid
+-- out stands first, and
+-- behind it what cannot be; `at` counts the octets before it. E9, EA and F2 end where their parent ends, so every
+-- parent ends with the octets.
 use Prim.Native.Nat.{ℕ, zero, suc, _+_, _<_, _≤_}
 use mathlib.Core.Path.{_≡_}
 use mathlib.Core.List.{[], _∷_, _++_}
@@ -30,7 +32,8 @@ pub data Unheld (ns : Numbers) (head : Octets) (at : ℕ) : Octets → (number d
   overrun : {n : ℕ} {field : Octets} (rest : Octets) → LengthField n field → length rest < n →
       Unheld ns head at (head ++ (field ++ rest)) (ns .extent) at
 
--- an element of this one octet is wanted at `at`; the parent has ended, another octet stands there (`number`), or no contents
+-- an element of this one octet is wanted at `at`; the parent has ended, another octet stands there (`number`), or no
+-- contents
 pub data Unfound (ns : Numbers) (octet number at : ℕ) : Octets → (number detail : ℕ) → Type 0 where
   ended : Unfound ns octet number at [] (ns .end) at
   other : {a : ℕ} {s : Octets} → (a ≡ octet → ⊥) → Unfound ns octet number at (a ∷ s) number at
@@ -38,7 +41,8 @@ pub data Unfound (ns : Numbers) (octet number at : ℕ) : Octets → (number det
 
 -- the element has to end where its parent ends, and octets are left over
 pub data LeftOver (ns : Numbers) (head : Octets) (at : ℕ) : Octets → (number detail : ℕ) → Type 0 where
-  left : {body e : Octets} (a : ℕ) (rest : Octets) → Element head body e → LeftOver ns head at (e ++ (a ∷ rest)) (ns .rest) (at + length e)
+  left : {body e : Octets} (a : ℕ) (rest : Octets) → Element head body e → LeftOver ns head at (e ++ (a ∷
+      rest)) (ns .rest) (at + length e)
 
 -- those of a component
 abbrev pub component : Numbers
@@ -48,8 +52,10 @@ component = record { field = 4; extent = 5; end = 5; rest = 5 }
 pub data InSet : (room at : ℕ) → Octets → (number detail : ℕ) → Type 0 where
   one-too-many : {at a : ℕ} {s : Octets} → InSet zero at (a ∷ s) 10 at
   no-identifier : {room at a : ℕ} {s : Octets} → NoIdentifier (a ∷ s) → InSet (suc room) at (a ∷ s) 9 at
-  unheld : {room at number form : ℕ} {head s : Octets} {n d : ℕ} → IdentifierField number form head → Unheld component head at s n d → InSet (suc room) at s n d
-  later : {room at number form : ℕ} {head body e rest : Octets} {n d : ℕ} → IdentifierField number form head → Element head body e
+  unheld : {room at number form : ℕ} {head s : Octets} {n d : ℕ} → IdentifierField number form head →
+      Unheld component head at s n d → InSet (suc room) at s n d
+  later : {room at number form : ℕ} {head body e rest : Octets} {n d : ℕ} → IdentifierField number form head →
+      Element head body e
       → InSet room (at + length e) rest n d → InSet (suc room) at (e ++ rest) n d
 
 -- ---- the set: 8, and 5 where it ends early
@@ -59,24 +65,31 @@ pub data NoSet (at : ℕ) : Octets → (number detail : ℕ) → Type 0 where
   inside : {field set : Octets} {n d : ℕ} → LengthField (length set) field → InSet 64 (at + (1 + length field)) set n d
       → NoSet at (0xF2 ∷ (field ++ set)) n d
 
--- ---- the operation code and what stands behind it: 7 for another octet, and for contents that are not the family 9 and a specifier
+-- ---- the operation code and what stands behind it: 7 for another octet, and for contents that are not the family 9
+-- and a specifier
 pub data NoOperation (at : ℕ) : Octets → (number detail : ℕ) → Type 0 where
   unfound : {s : Octets} {n d : ℕ} → Unfound component 0xD1 7 at s n d → NoOperation at s n d
-  another : {body e : Octets} (rest : Octets) → Element (0xD1 ∷ []) body e → ((specifier : ℕ) → body ≡ 9 ∷ specifier ∷ [] → ⊥)
+  another : {body e : Octets} (rest : Octets) → Element (0xD1 ∷ []) body e → ((specifier : ℕ) → body ≡ 9 ∷
+      specifier ∷ [] → ⊥)
       → NoOperation at (e ++ rest) 7 at
-  behind : {specifier : ℕ} {e rest : Octets} {n d : ℕ} → Element (0xD1 ∷ []) (9 ∷ specifier ∷ []) e → NoSet (at + length e) rest n d
+  behind : {specifier : ℕ} {e rest : Octets} {n d : ℕ} → Element (0xD1 ∷ []) (9 ∷ specifier ∷ []) e →
+      NoSet (at + length e) rest n d
       → NoOperation at (e ++ rest) n d
 
--- ---- the component ID and what stands behind it, in a component of this type: 6 for another octet, or a length not allowed
+-- ---- the component ID and what stands behind it, in a component of this type: 6 for another octet, or a length not
+-- allowed
 abbrev pub Allowed : (kind size : ℕ) → Type 0
 Allowed kind size = ((kind ≡ 0xE9) × (size ≤ 2)) ⊎ ((kind ≡ 0xEA) × (size ≡ 1))
 
 pub data NoBody (kind at : ℕ) : Octets → (number detail : ℕ) → Type 0 where
   unfound : {s : Octets} {n d : ℕ} → Unfound component 0xCF 6 at s n d → NoBody kind at s n d
-  sized : {id i : Octets} (rest : Octets) → Element (0xCF ∷ []) id i → (Allowed kind (length id) → ⊥) → NoBody kind at (i ++ rest) 6 at
-  invoked : {id i rest : Octets} {n d : ℕ} → kind ≡ 0xE9 → Element (0xCF ∷ []) id i → length id ≤ 2 → NoOperation (at + length i) rest n d
+  sized : {id i : Octets} (rest : Octets) → Element (0xCF ∷ []) id i → (Allowed kind (length id) → ⊥) →
+      NoBody kind at (i ++ rest) 6 at
+  invoked : {id i rest : Octets} {n d : ℕ} → kind ≡ 0xE9 → Element (0xCF ∷ []) id i → length id ≤ 2 →
+      NoOperation (at + length i) rest n d
       → NoBody kind at (i ++ rest) n d
-  answered : {id i rest : Octets} {n d : ℕ} → kind ≡ 0xEA → Element (0xCF ∷ []) id i → length id ≡ 1 → NoSet (at + length i) rest n d
+  answered : {id i rest : Octets} {n d : ℕ} → kind ≡ 0xEA → Element (0xCF ∷ []) id i → length id ≡ 1 →
+      NoSet (at + length i) rest n d
       → NoBody kind at (i ++ rest) n d
 
 -- ---- the component: 2, 3, then E9 or EA, whose length field stands at 1

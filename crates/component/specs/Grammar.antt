@@ -19,15 +19,18 @@ pub data Element (head body : Octets) : Octets → Type 0 where
 pub data Parameters : List Parameter → Octets → Type 0 where
   none : Parameters [] []
   more : (p : Parameter) {ps : List Parameter} {head s rest : Octets} →
-      IdentifierField (p .number) (p .form) head → Element head (p .content) s → Parameters ps rest → Parameters (p ∷ ps) (s ++ rest)
+      IdentifierField (p .number) (p .form) head → Element head (p .content) s → Parameters ps rest →
+      Parameters (p ∷ ps) (s ++ rest)
 
 pub data Component : Type 0 where
   Invoke : (id : Octets) (specifier : ℕ) (ps : List Parameter) → Component
   Result : (id : Octets) (ps : List Parameter) → Component
 
 pub data Laid : Component → Octets → Type 0 where
-  invoked : (id : Octets) (specifier : ℕ) (ps : List Parameter) (i o f set whole : Octets) → length id ≤ 2 → specifier < 256
-      → Element (0xCF ∷ []) id i → Element (0xD1 ∷ []) (9 ∷ specifier ∷ []) o → Parameters ps set → Element (0xF2 ∷ []) set f
+  invoked : (id : Octets) (specifier : ℕ) (ps : List Parameter) (i o f set whole : Octets) → length id ≤ 2 →
+      specifier < 256
+      → Element (0xCF ∷ []) id i → Element (0xD1 ∷ []) (9 ∷ specifier ∷ []) o → Parameters ps set → Element (0xF2 ∷
+      []) set f
       → Element (0xE9 ∷ []) (i ++ o ++ f) whole → Laid (Invoke id specifier ps) whole
   answered : (id : Octets) (ps : List Parameter) (i f set whole : Octets) → length id ≡ 1
       → Element (0xCF ∷ []) id i → Parameters ps set → Element (0xF2 ∷ []) set f

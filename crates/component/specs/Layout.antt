@@ -143,3 +143,7 @@ layoutAt s from = headAt s from >>= layoutBehind s
 
 abbrev pub layoutOf : Octets → Answer Layout
 layoutOf s = layoutAt s 0
+
+-- the specifier of a layout: an INVOKE carries it, a RESULT has the one that is handed in
+unfoldable pub specifierIn : Octets → Layout → (given : ℕ) → ℕ
+specifierIn s l given = if (eqb (l .head .kind) 0xE9) (getD s (l .head .operation) 0) given

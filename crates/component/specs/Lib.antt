@@ -7,9 +7,7 @@ pub mod Needed
 pub mod Part
 pub mod Layout
 pub mod Onward
-pub mod Shown
 pub mod Outline
-pub mod Composable
 pub mod Composing
-pub mod Emitting
 pub mod Told
+pub mod inner

@@ -1,4 +1,5 @@
--- Where the parts of a component stand, by its layout: the set's contents are the last of it, each parameter stands where the one before it
+-- Where the parts of a component stand, by its layout: the set's contents are the last of it, each parameter stands
+-- where the one before it
 -- ends, and the specifier of an INVOKE is the octet before the set.
 use Prim.Native.Nat.{ℕ, _+_, _-_}
 use mathlib.Core.List.{List, [], _∷_}

@@ -1,4 +1,5 @@
--- What the values that are handed in and out stand for: the entries of a table, four numbers for each parameter, and the ID octets.
+-- What the values that are handed in and out stand for: the entries of a table, four numbers for each parameter, and
+-- the ID octets.
 use Prim.Native.Nat.{ℕ, zero, suc, _+_, _*_}
 use mathlib.Core.List.{List, [], _∷_, _++_}
 use lib.ListN.{length, getD, take, drop}

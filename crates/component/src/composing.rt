@@ -14,7 +14,7 @@ ghost use Rattle.component.specs.Composed.{element, setOf};
 ghost use Rattle.component.specs.Needed.{elementSize, bodySize};
 ghost use Rattle.component.specs.Composing.{idFits, entryStands, entriesFrom, measured, composing, written, outputAfter};
 ghost use Rattle.component.specs.Table.{idOctets, parametersFrom};
-ghost use Rattle.component.specs.Emitting.{
+ghost use Rattle.component.specs.inner.Emitting.{
   Put,
   operationOctets,
   headOctets,

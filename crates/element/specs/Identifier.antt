@@ -1,4 +1,5 @@
--- The identifier of a parameter: class bits 10, the form, and the number, or 31 with the number behind it, seven bits an octet.
+-- The identifier of a parameter: class bits 10, the form, and the number, or 31 with the number behind it, seven bits
+-- an octet.
 use Prim.Native.Nat.{ℕ, _+_, _*_, _/_, _%_, _≤_}
 use mathlib.Core.List.{[], _∷_}
 use lib.Dec.{ltb}

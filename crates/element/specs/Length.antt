@@ -1,4 +1,5 @@
--- The length field: one octet 00 to 7F; 81 and one octet for 128 to 255; 82 and two octets, high first, for 256 to 65,535.
+-- The length field: one octet 00 to 7F; 81 and one octet for 128 to 255; 82 and two octets, high first, for 256 to
+-- 65,535.
 use Prim.Native.Nat.{ℕ, _/_, _%_, _<_}
 use mathlib.Core.List.{[], _∷_}
 use lib.Dec.{ltb}

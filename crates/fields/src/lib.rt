@@ -1,6 +1,7 @@
 // The loop that reads and writes: tagged fields are read from one descriptor, and lines are written to another. No
 // contract can say what is read or written, so these functions are proved safe and ending and state no outcome. What a
-// field does to the run is `lines::list_field`, which states all of it.
+// field does to the run is `lines::list_field`, which states all of it. A read or a write that fails ends the run, and
+// is said on standard error.
 use lines::Field;
 use lines::Kept;
 use lines::LONGEST;
@@ -12,6 +13,8 @@ ghost use lib.ListN.{length};
 struct Left {
     at: usize,
     end: usize,
+    // Whether the input ends here because it cannot be read on.
+    unread: bool,
 }
 
 struct Taken {
@@ -34,6 +37,8 @@ struct Run {
     filled: usize,
     more: bool,
     cut: bool,
+    // Whether a read or a write failed.
+    failed: bool,
 }
 
 // As many octets at the front of a slice as there are.
@@ -56,9 +61,14 @@ fn ready(from: i32, piece: &mut [u8], left: Left) -> Left
         }
     }
     let got = libc::read(from, piece);
+    let unread = got < 0;
+    if unread {
+        os::fail(b"roadquill: the input cannot be read");
+    }
     Left {
         at: 0,
         end: io::count(got, piece),
+        unread,
     }
 }
 
@@ -99,23 +109,57 @@ fn take_header(from: i32, piece: &mut [u8], left: Left) -> Head {
 
 // ---- output
 
-// Where the next line goes: behind those that wait, which are written first where the longest has no room behind them.
-fn line_place(to: i32, text: &[u8], filled: usize) -> usize {
-    if filled <= text.len() {
-        if LONGEST <= text.len() - filled {
-            return filled;
+// Writes all of the octets, or says that it cannot.
+pub fn write(to: i32, octets: &[u8]) -> bool {
+    let written = io::write_all(to, octets);
+    if !written {
+        os::fail(b"roadquill: the listing cannot be written");
+    }
+    written
+}
+
+// Closes what was written to: some file systems say only then that it was not kept.
+pub fn close(to: i32) -> bool {
+    let closed = libc::close(to) == 0;
+    if !closed {
+        os::fail(b"roadquill: the listing cannot be written");
+    }
+    closed
+}
+
+// Room for the next line: those that wait are written where the longest has no room behind them.
+fn make_room(to: i32, mut run: Run, text: &[u8]) -> Run {
+    if run.filled <= text.len() {
+        if LONGEST <= text.len() - run.filled {
+            return run;
         }
     }
-    io::write_all(to, front(text, filled));
-    0
+    let written = write(to, front(text, run.filled));
+    run.filled = 0;
+    run.more = written;
+    run.failed = !written;
+    run
+}
+
+// Writes the lines that wait, and the last one of a run that was cut. Answers whether all was read and written.
+fn finish(to: i32, run: Run, text: &[u8]) -> bool {
+    if !write(to, front(text, run.filled)) {
+        return false;
+    }
+    if run.cut {
+        return write(to, b"cut\n");
+    }
+    !run.failed
 }
 
 // ---- fields
 
 impl Run {
-    fn stopped(mut self, cut: bool) -> Self {
+    // No field is left: the input ends, within a field or between two, or cannot be read on.
+    fn stopped(mut self, left: Left, within: bool) -> Self {
         self.more = false;
-        self.cut = cut;
+        self.cut = within && !left.unread;
+        self.failed = left.unread;
         self
     }
 }
@@ -123,22 +167,24 @@ impl Run {
 // A whole field. The empty output has room for the longest line.
 fn list_field(
     to: i32,
-    mut run: Run,
+    run: Run,
     tag: u8,
     contents: &[u8],
     table: &mut [u16],
     text: &mut [u8],
 ) -> Run {
-    let place = line_place(to, text, run.filled);
+    let mut run = make_room(to, run, text);
+    if !run.more {
+        return run;
+    }
+    let place = run.filled;
     let kept = run.kept;
     match lines::list_field(kept, tag, contents, table, text, place) {
         Listed::Done { kept, at } => {
             run.kept = kept;
             run.filled = at;
         }
-        Listed::NoRoom => {
-            run.filled = place;
-        }
+        Listed::NoRoom => {}
     }
     run
 }
@@ -157,10 +203,10 @@ fn list_contents(
 ) -> Run {
     let left = run.left;
     let taken = take(from, piece, left, component, size);
-    if taken.count < size {
-        return run.stopped(true);
-    }
     let left = taken.left;
+    if taken.count < size {
+        return run.stopped(left, true);
+    }
     run.left = left;
     list_field(to, run, tag, front(component, size), table, text)
 }
@@ -180,7 +226,7 @@ fn step(
     run.left = left;
     let field = head.field;
     match field {
-        Field::Cut => run.stopped(0 < head.count),
+        Field::Cut => run.stopped(left, 0 < head.count),
         Field::Of { tag, size } => {
             list_contents(from, to, run, tag, size, piece, component, table, text)
         }
@@ -188,26 +234,28 @@ fn step(
 }
 
 // Lists the fields of the input. A proved loop has to end, and nothing says that the input does. So the loop counts its
-// turns down, from a number that no run uses up.
-pub fn list(from: i32, to: i32, component: &mut [u8], table: &mut [u16]) {
+// turns down, from a number that no run uses up. Answers whether all was read and written.
+pub fn list(from: i32, to: i32, component: &mut [u8], table: &mut [u16]) -> bool {
     let mut pieces = [0u8; 16384];
     let piece: &mut [u8] = &mut pieces;
     let mut texts = [0u8; 8192];
     let text: &mut [u8] = &mut texts;
     let mut run = Run {
-        left: Left { at: 0, end: 0 },
+        left: Left {
+            at: 0,
+            end: 0,
+            unread: false,
+        },
         kept: Kept::start(),
         filled: 0,
         more: true,
         cut: false,
+        failed: false,
     };
     let mut turns = u64::MAX;
     while 0 < turns && run.more {
         run = step(from, to, run, piece, component, table, text);
         turns = turns - 1;
     }
-    io::write_all(to, front(text, run.filled));
-    if run.cut {
-        io::write_all(to, b"cut\n");
-    }
+    finish(to, run, text)
 }

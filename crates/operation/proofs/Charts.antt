@@ -2,8 +2,7 @@
 use mathlib.Core.Path.{_≡_, refl}
 use mathlib.Core.List.{map}
 use Rattle.element.specs.Decoded.{lengthAt, within, numbered, identifierAt}
-use Rattle.component.specs.Layout.{spanOf, contents, wanted, setAt, operation, invoke, result, headFrom, headAt, parameter, parameterAt, parameters, layoutBehind, layoutAt}
-use Rattle.component.specs.Shown.{specifierIn}
+use Rattle.component.specs.Layout.{spanOf, contents, wanted, setAt, operation, invoke, result, headFrom, headAt, parameter, parameterAt, parameters, layoutBehind, layoutAt, specifierIn}
 use Rattle.component.specs.Table.{numbers, tableWith, idOf}
 use Rattle.operation.specs.Row.{key, numberOf, onLine, named, repeats}
 use Rattle.operation.specs.Rows.{operations}

@@ -8,9 +8,8 @@ use native.Mathlib.Omega.{arith}
 use Rattle.element.specs.Octets.{Octets, AreOctets}
 use Rattle.element.specs.Answer.{accepted}
 use Rattle.component.specs.declared.Id as D
-use Rattle.component.specs.Layout.{Layout, layoutOf}
+use Rattle.component.specs.Layout.{Layout, layoutOf, specifierIn}
 use Rattle.component.specs.Grammar.{Parameter}
-use Rattle.component.specs.Shown.{specifierIn}
 use Rattle.component.specs.Composing.{entriesOf, octetsOf, written}
 use Rattle.component.specs.Table.{componentOf}
 use Rattle.component.specs.Needed.{octetsNeeded}

@@ -5,12 +5,11 @@ use mathlib.Core.Path.{_≡_, refl}
 use mathlib.Core.List.{List}
 use native.Mathlib.Omega.{arith}
 use Rattle.element.specs.Octets.{Octets}
-use Rattle.component.specs.Layout.{Layout}
-use Rattle.component.specs.Shown.{specifierIn}
+use Rattle.component.specs.Layout.{Layout, specifierIn}
 use Rattle.operation.specs.Row.{Row, Item, key}
 use Rattle.operation.specs.Judge.{judge}
 use Rattle.operation.specs.Items.{itemOf}
-use Rattle.operation.specs.Newcomers.{Grown}
+use Rattle.operation.proofs.Newcomers.{Grown}
 use Rattle.operation.proofs.Untouched.{untouched}
 
 -- treating no octets as absent: what a row sees of a parameter does not hang on its contents

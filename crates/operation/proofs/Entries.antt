@@ -9,9 +9,9 @@ use native.Mathlib.Omega.{arith}
 use native.Mathlib.Nat.{sub-zero}
 use native.Mathlib.Numerals.{add-one}
 use Rattle.element.specs.Octets.{if}
-use Rattle.operation.specs.Row.{Line, Item, onLine}
+use Rattle.operation.specs.Row.{Line, oneOf, Item, onLine}
 use Rattle.operation.specs.Judge.{occurs, lastMark}
-use Rattle.operation.specs.Coded.{itemAt, itemsFrom}
+use Rattle.operation.specs.inner.Coded.{itemAt, itemsFrom}
 
 -- of `count` entries those from `at` on
 abbrev pub rest : (table : List ℕ) (count at : ℕ) → List Item
@@ -54,9 +54,20 @@ module _ {x : Item} {xs ys : List Item} (e : xs ≡ x ∷ ys) {j k : ℕ} (f : j
   unfolding occurs
   passed h = rw e (simp (← f, ne-eqb j k h))
 
-pub nowhere : {xs : List Item} (k : ℕ) → xs ≡ [] → false ≡ occurs k xs
-unfolding occurs
-nowhere k e = rw e
+-- which keys a choice names
+module _ (i j k : ℕ) where
+  pub is-one : k ≡ i → true ≡ onLine (oneOf i j) k
+  unfolding onLine
+  is-one e = rw (eq-eqb k i e)
+
+  module _ (n : k ≡ i → ⊥) where
+    pub is-other : k ≡ j → true ≡ onLine (oneOf i j) k
+    unfolding onLine
+    is-other e = rw (ne-eqb k i n, eq-eqb k j e)
+
+    pub is-neither : (k ≡ j → ⊥) → false ≡ onLine (oneOf i j) k
+    unfolding onLine
+    is-neither m = rw (ne-eqb k i n, ne-eqb k j m)
 
 -- the last entry that a line names, where it was `m` among those before `at`
 module _ (t : List ℕ) (count at : ℕ) (l : Line) (m : ℕ) where

@@ -1,13 +1,15 @@
+pub mod Newcomers
 pub mod Lines
 pub mod Untouched
 pub mod Marks
 pub mod RowFaults
 pub mod Entries
-pub mod LineCode
+pub mod Sets
 pub mod Repeats
-pub mod RowWalk
+pub mod Musts
 pub mod Noting
 pub mod Verdicts
+pub mod Settling
 pub mod Readings
 pub mod RowsFound
 pub mod Places

@@ -7,10 +7,10 @@ use native.Mathlib.Omega.{arith}
 use Rattle.element.specs.Octets.{Octets}
 use Rattle.component.specs.Table.{Entry}
 use Rattle.component.specs.Grammar.{Parameter}
-use Rattle.component.specs.Shown.{Shows, Pairwise, none, more}
+use Rattle.component.proofs.Shown.{Shows, Pairwise, none, more}
 use Rattle.operation.specs.Row.{Row, Item}
 use Rattle.operation.specs.Judge.{judge, remark, pointed}
-use Rattle.operation.specs.Newcomers as N
+use Rattle.operation.proofs.Newcomers as N
 use Rattle.operation.specs.Items.{itemOf}
 use Rattle.operation.specs.Demands.{placeIn, keyOf, Joined, done, kept, newcomer, moved}
 use Rattle.operation.proofs.Marks.{marked}

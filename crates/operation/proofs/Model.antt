@@ -9,13 +9,11 @@ use native.Mathlib.Decide.{decLt, decLe, ℕ-discrete}
 use native.Mathlib.Omega.{arith}
 use Rattle.element.specs.Octets.{Octets, AreOctets}
 use Rattle.element.specs.Answer.{Answer, accepted, refused}
-use Rattle.component.specs.Layout.{Layout, layoutOf}
+use Rattle.component.specs.Layout.{Layout, layoutOf, specifierIn}
 use Rattle.component.specs.Grammar.{Laid, Component, parametersOf, kindOf, identifierOf, specifierOf}
 use Rattle.component.specs.Faults.{Typed, Allowed}
-use Rattle.component.specs.Shown.{specifierIn}
 use Rattle.component.specs.Standing.{standing}
-use Rattle.component.specs.Composed.{composed}
-use Rattle.component.specs.Table.{parametersFrom, idOf, tableWith, idOctets}
+use Rattle.component.specs.Table.{parametersFrom, idOf, tableWith}
 use Rattle.component.specs.Composing.{written, outputAfter}
 use Rattle.component.proofs.Ends.{Ends, gives, given as Ends·given, stopped, then, at-most}
 use Rattle.component.proofs.Asking.{answered}
@@ -33,9 +31,9 @@ use Rattle.operation.specs.Finding.{rowOf}
 use Rattle.operation.specs.Reading.{Shown, reading, readingAt, shownOf}
 use Rattle.operation.specs.Items.{itemOf, itemsOf}
 use Rattle.operation.specs.Writing.{writing}
-use Rattle.operation.specs.Caller.{Told, Order}
+use Rattle.operation.specs.Caller.{wrote, Told, Order}
 use Rattle.operation.specs.Told.{told}
-use Rattle.operation.specs.Demands.{RowFor, ReaderRefuses, Right, tells, EntryStands, ordered, needed, made, Held, Ready, WriterRefuses, Writable, Demand1, Demand2}
+use Rattle.operation.specs.Demands.{octetsFor, ReadAgain, RowFor, ReaderRefuses, Right, tells, EntryStands, ordered, needed, made, Held, Ready, WriterRefuses, Writable, Demand1, Demand2}
 use Rattle.operation.specs.Model.{reader, writer, written-as}
 use Rattle.operation.proofs.Readings.{either-row, row-ends}
 use Rattle.operation.proofs.RowsFound.{has-row, its-row, has-none}
@@ -77,7 +75,7 @@ module _ (s : Octets) (o : AreOctets s) where
             ap₂ (λ a b. refused a b) p q
 
     refuses-rightly : {n d : ℕ} → reader s given t .answer ≡ refused n d → ReaderRefuses s given t n d × (reader s given t .table ≡ t)
-    refuses-rightly e = let f = read-back e in (stopped reader-ends f, refused-so s o given t f .1)
+    refuses-rightly e = let f = read-back e in (stopped reader-ends f, ap (λ x. x .table) (refused-so s o given t f))
 
     accepts-rightly : {x : Told} → reader s given t .answer ≡ accepted x → (c : Component) × (row : Row) × Right s given t c row
     unfolding told
@@ -210,8 +208,8 @@ reads-then-writes : (s : Octets) (given : ℕ) (t : List ℕ) (out : Octets) {x 
     ≡ record { answer = accepted (length s); output = s ++ drop (length s) out }
 reads-then-writes s given t out o e h =
     let (c, row, r) = accepts-rightly s o given t e in
-    let (p, q) = reader-accepts s o given t r in
-    handed-back s given t out r h (inner (sym p ∙ e)) q
+    let p = reader-accepts s o given t r in
+    handed-back s given t out r h (inner (sym (ap (λ x. x .answer) p) ∙ e)) (ap (λ x. x .table) p)
 
 pub counted : (i n : ℕ) (t : List ℕ) (s : Octets) → length (parametersFrom i n t s) ≡ n
 unfolding parametersFrom
@@ -219,13 +217,12 @@ counted i zero t s = refl
 counted i (suc n) t s = ap suc (counted (i + 1) n t s)
 
 module _ (o : Order) (out : Octets) where
-  writes-well : {row : Row} → Writable o out row →
-      (writer o out .answer ≡ accepted (length (composed (made o)))) × (writer o out .output ≡ composed (made o) ++ drop (length (composed (made o))) out)
+  writes-well : {row : Row} → Writable o out row → writer o out ≡ wrote (accepted (length (octetsFor o))) (octetsFor o ++ drop (length (octetsFor o)) out)
   unfolding written outputAfter
-  writes-well w = let f = writer-accepts o out w in (rw f, rw f)
+  writes-well w = rw (writer-accepts o out w)
 
   abbrev whole : Octets
-  whole = composed (made o)
+  whole = octetsFor o
 
   -- what was written is right
   written-right : o .specifier < 256 → {row : Row} → Writable o out row → (t : List ℕ) → 256 ≤ length t →
@@ -242,15 +239,11 @@ module _ (o : Order) (out : Octets) where
       )
 
   -- and read again
-  abbrev Again : (s : Octets) (t : List ℕ) → Type 0
-  Again s t = (x : Told) × (reader s (o .specifier) t .answer ≡ accepted x)
-      × (x .kind ≡ o .kind) × (x .id ≡ idOf (idOctets (o .id))) × (x .specifier ≡ o .specifier) × (x .all ≡ o .count)
-      × (parametersFrom 0 (x .all) (reader s (o .specifier) t .table) s ≡ ordered o)
-
-  read-whole : o .specifier < 256 → {row : Row} → Writable o out row → (t : List ℕ) → 256 ≤ length t → AreOctets whole → Again whole t
+  read-whole : o .specifier < 256 → {row : Row} → Writable o out row → (t : List ℕ) → 256 ≤ length t → AreOctets whole → ReadAgain reader o whole t
   read-whole h {row} w t k b =
       let (m, r) = written-right h w t k in
-      let (p, q) = reader-accepts whole b (o .specifier) t r in
+      let p = reader-accepts whole b (o .specifier) t r in
+      let q = ap (λ x. x .table) p in
       let l = r .laid-out in
       let (y, e, z) = complete (l .laid) (l .within) (l .few) in
       let composable = laid-composable (l .laid) (l .within) in
@@ -258,18 +251,19 @@ module _ (o : Order) (out : Octets) where
       let (_, f) = table-shown shows (composable .identified) t in
       let g = sym (listed _ _ 0 _ f) in
       let n = as-many shows in
-      let c = counted 0 (o .count) (o .table) (o .source) in (
-        tells (o .specifier) (made o) row,
-        p,
-        m .kind-is,
-        ap idOf (m .id-is),
-        m .specifier-is,
-        ap length (m .parameters-are) ∙ c,
-        rw (q, ← n) (g ∙ m .parameters-are),
-      )
+      let c = counted 0 (o .count) (o .table) (o .source) in
+      record {
+        told = tells (o .specifier) (made o) row;
+        accepts = ap (λ x. x .answer) p;
+        kind = m .kind-is;
+        id = ap idOf (m .id-is);
+        specifier = m .specifier-is;
+        count = ap length (m .parameters-are) ∙ c;
+        parameters = rw (q, ← n) (g ∙ m .parameters-are);
+      }
 
 writes-then-reads : (o : Order) (out : Octets) (t : List ℕ) {n : ℕ} → o .specifier < 256 → writer o out .answer ≡ accepted n → 256 ≤ length t →
-    AreOctets (take n (writer o out .output)) → Again o out (take n (writer o out .output)) t
+    AreOctets (take n (writer o out .output)) → ReadAgain reader o (take n (writer o out .output)) t
 unfolding written outputAfter
 writes-then-reads o out t {n} h e k b =
     let (row, w) = writes-accepting o out e in

@@ -11,10 +11,9 @@ use native.Mathlib.Decide.{decLt}
 use native.Mathlib.Omega.{arith}
 use Rattle.element.specs.Octets.{Octets, AreOctets}
 use Rattle.element.specs.Answer.{Answer, accepted, refused, _>>=_, _>>_, check}
-use Rattle.component.specs.Layout.{Layout, layoutOf}
+use Rattle.component.specs.Layout.{Layout, layoutOf, specifierIn}
 use Rattle.component.specs.Grammar.{Parameter, Component, kindOf, specifierOf}
 use Rattle.component.specs.Faults.{LaidOut, Typed, Allowed}
-use Rattle.component.specs.Shown.{specifierIn}
 use Rattle.component.specs.Standing.{standing, specifierPlace}
 use Rattle.component.specs.Composed.{composed}
 use Rattle.component.specs.Table.{parametersFrom, tableWith}
@@ -30,7 +29,7 @@ use Rattle.operation.specs.Faults.{RowFault}
 use Rattle.operation.specs.Items.{itemOf}
 use Rattle.operation.specs.Reading.{reading, readingAt, tableAfter}
 use Rattle.operation.specs.Writing.{writing}
-use Rattle.operation.specs.Caller.{Told, Read, Reader, Order, Wrote, Writer}
+use Rattle.operation.specs.Caller.{read, wrote, Told, Reader, Order, Writer}
 use Rattle.operation.specs.Told.{told}
 use Rattle.operation.specs.Demands.{ReaderRefuses, Right, tells, EntryStands, ordered, made, Held, Ready, WriterRefuses, Writable, Demand1, Demand2}
 use Rattle.operation.specs.Model.{reader, writer, written-as, OnlyOne}
@@ -71,12 +70,12 @@ module _ (s : Octets) (o : AreOctets s) (given : ℕ) (t : List ℕ) where
   reader-refuses (ReaderRefuses.no-row h l e) = rowless h l (no-row-found _ _ e)
   reader-refuses (ReaderRefuses.misfit h l e f) = misfits h l (its-row _ _ _ e) f
 
-  pub refused-so : {n d : ℕ} → reading s given (length t) ≡ refused n d → (reader s given t .answer ≡ refused n d) × (reader s given t .table ≡ t)
+  pub refused-so : {n d : ℕ} → reading s given (length t) ≡ refused n d → reader s given t ≡ read (refused n d) t
   unfolding told tableAfter
-  refused-so e = (rw e, rw e)
+  refused-so e = rw e
 
   pub reader-accepts : {c : Component} {row : Row} (r : Right s given t c row) →
-      (reader s given t .answer ≡ accepted (tells given c row)) × (reader s given t .table ≡ tableWith (standing (r .laid-out .laid)) t)
+      reader s given t ≡ read (accepted (tells given c row)) (tableWith (standing (r .laid-out .laid)) t)
   unfolding told tableAfter
   reader-accepts {c} {row} r =
       let (l, e, q) = its-layout (r .enough) (r .laid-out) in
@@ -85,7 +84,7 @@ module _ (s : Octets) (o : AreOctets s) (given : ℕ) (t : List ℕ) where
       let j = fits-read row (u .shows) .1 (r .fits) in
       let f = reads s given (length t) (r .enough) e (anywhere _ _ 0 k (l .head .operation)) in
       let (named, other) = counts-read row (u .shows) in
-      (rw (f, j, named, other, u .specifier given, u .kind, u .id, as-many (u .shows)), rw (f, j, q .entries))
+      ap₂ read (rw (f, j, named, other, u .specifier given, u .kind, u .id, as-many (u .shows))) (rw (f, j, q .entries))
 
 not-le : {n m : ℕ} → (n ≤ m → ⊥) → m < n
 not-le {n} {m} h = go (decLt m n)
@@ -187,41 +186,21 @@ module _ (o : Order) where
   writer-accepts out {row} h = rw (ready (h .ready), its-row _ _ _ (h .has-row), fits-written row 0 (ordered o) .1 (h .fits), le-leb _ _ (h .room))
 
 -- ---- there is no other
-same-read : {x y : Read} {a : Answer Told} {t : List ℕ} → x .answer ≡ a → x .table ≡ t → y .answer ≡ a → y .table ≡ t → x ≡ y
-same-read p q r s = ap₂ (λ a t. record { answer = a; table = t }) (p ∙ sym r) (q ∙ sym s)
-
-same-wrote : {x y : Wrote} {a : Answer ℕ} {t : Octets} → x .answer ≡ a → x .output ≡ t → y .answer ≡ a → y .output ≡ t → x ≡ y
-same-wrote p q r s = ap₂ (λ a t. record { answer = a; output = t }) (p ∙ sym r) (q ∙ sym s)
-
 module _ (r : Reader) (w : Writer) (first : Demand1 r w) (second : Demand2 r w) where
   one-reader : (s : Octets) (given : ℕ) (t : List ℕ) → AreOctets s → r s given t ≡ reader s given t
   one-reader s given t o = go (r s given t .answer) refl
     where
       go : (a : Answer Told) → r s given t .answer ≡ a → r s given t ≡ reader s given t
-      go (accepted x) e =
-          let (c, row, h) = second .reader s given t o e in
-          let (p, q) = second .shown s given t o h in
-          let (m, n) = reader-accepts s o given t h in
-          same-read p q m n
-      go (refused n d) e =
-          let (f, q) = first .reader s given t o e in
-          let (m, k) = refused-so s o given t (reader-refuses s o given t f) in
-          same-read e q m k
+      go (accepted x) e = let (c, row, h) = second .reader s given t o e in second .shown s given t o h ∙ sym (reader-accepts s o given t h)
+      go (refused n d) e = let (f, q) = first .reader s given t o e in ap₂ read e q ∙ sym (refused-so s o given t (reader-refuses s o given t f))
 
   one-writer : (o : Order) (out : Octets) → w o out ≡ writer o out
   unfolding written outputAfter
   one-writer o out = go (w o out .answer) refl
     where
       go : (a : Answer ℕ) → w o out .answer ≡ a → w o out ≡ writer o out
-      go (accepted n) e =
-          let (row, h) = second .writer o out e in
-          let (p, q) = second .written o out h in
-          let f = writer-accepts o out h in
-          same-wrote p q (rw f) (rw f)
-      go (refused n d) e =
-          let (g, q) = first .writer o out e in
-          let f = writer-refuses o out g in
-          same-wrote e q (rw f) (rw f)
+      go (accepted n) e = let (row, h) = second .writer o out e in second .written o out h ∙ rw (writer-accepts o out h)
+      go (refused n d) e = let (g, q) = first .writer o out e in ap₂ wrote e q ∙ rw (writer-refuses o out g)
 
 pub only-one : OnlyOne
 unfolding OnlyOne

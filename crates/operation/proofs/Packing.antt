@@ -93,7 +93,7 @@ module _ (s : Octets) (o : AreOctets s) (given : ℕ) (h : given < 256) (t : Lis
   told-fits : {c : Component} {row : Row} → Right s given t c row → ReadingFits (accepted (tells given c row))
   unfolding idOf
   told-fits {c} {row} r =
-      let (few, all) = counts.read s given (length t) o (sym (reader-accepts s o given t r .0)) in
+      let (few, all) = counts.read s given (length t) o (sym (ap (λ x. x .answer) (reader-accepts s o given t r))) in
       let id = id-octets o (r .laid-out) in
       (small (toldOctets (tells given c row)) (omega (arith, own-octets (r .laid-out .laid) h, id 0, id 1)), all)
 
@@ -107,7 +107,7 @@ module _ (s : Octets) (o : AreOctets s) (given : ℕ) (h : given < 256) (t : Lis
   reader-fits : (a : Answer Told) → reader s given t .answer ≡ a → ReadingFits a
   reader-fits (accepted x) e =
       let (c, row, r) = demand2-ours .reader s given t o e in
-      subst ReadingFits (sym (reader-accepts s o given t r .0) ∙ e) (told-fits r)
+      subst ReadingFits (sym (ap (λ x. x .answer) (reader-accepts s o given t r)) ∙ e) (told-fits r)
   reader-fits (refused n d) e = refusal-fits (demand1-ours .reader s given t o e .0)
 
 -- the writer's marks count its entries

@@ -7,13 +7,13 @@ use lib.Seq.{getD-append-add}
 use native.Mathlib.Nat.{add-zero, zero-add}
 use native.Mathlib.Omega.{arith}
 use Rattle.component.specs.Table.{Entry, next, numbers, tableWith}
-use Rattle.component.specs.Shown.{Contiguous, more}
+use Rattle.component.proofs.Shown.{Contiguous, more}
 use Rattle.operation.specs.Row.{Item, key}
 use Rattle.operation.specs.Judge.{remark}
-use Rattle.operation.specs.Coded.{itemAt, itemsFrom}
+use Rattle.operation.specs.inner.Coded.{itemAt, itemsFrom}
 use Rattle.operation.specs.Items.{itemOf}
 use Rattle.operation.specs.Demands.{placeIn}
-use Rattle.operation.specs.Finishing.{placeFrom}
+use Rattle.operation.specs.inner.Finishing.{placeFrom}
 
 -- the entries as a row sees them, marked by where they stand in the order, from `i` on
 unfoldable pub indexed : ℕ → List Entry → List Item

@@ -11,8 +11,7 @@ use native.Mathlib.Omega.{arith}
 use Rattle.element.specs.Octets.{Octets, if}
 use Rattle.element.specs.Answer.{Answer, accepted, refused, _>>=_, _>>_}
 use Rattle.component.specs.Table.{Entry, tableWith}
-use Rattle.component.specs.Layout.{Layout}
-use Rattle.component.specs.Shown.{specifierIn}
+use Rattle.component.specs.Layout.{Layout, specifierIn}
 use Rattle.component.specs.Outline.{headingOf, specifierAt}
 use Rattle.component.proofs.Entries.{numbers-length}
 use Rattle.component.proofs.Laying.{Ordered}
@@ -22,12 +21,12 @@ use Rattle.operation.specs.declared.Judged.the-variants as JV
 use Rattle.operation.specs.Row.{Row, Item, named}
 use Rattle.operation.specs.Judge.{judge, countNamed, pointed}
 use Rattle.operation.specs.Faults.{RowFault, again, missing, both}
-use Rattle.operation.specs.Coded.{itemsFrom, judgement, verdict, judgedIn}
+use Rattle.operation.specs.inner.Coded.{itemsFrom, judgement, verdict, judgedIn}
 use Rattle.operation.specs.Items.{itemOf}
 use Rattle.operation.specs.Reading.{countOther, shownBy, shownOf, tableAfter}
 use Rattle.operation.specs.Told.{told}
-use Rattle.operation.specs.Sheet.{copied}
-use Rattle.operation.specs.Finishing.{specifierFor, Pointing, detailOf, finished, tableFinished}
+use Rattle.operation.specs.inner.Sheet.{copied}
+use Rattle.operation.specs.inner.Finishing.{specifierFor, Pointing, detailOf, finished, tableFinished}
 use Rattle.operation.proofs.Marks.{marked, count-marked}
 use Rattle.operation.proofs.RowFaults.{row-faulty, pointed-at}
 use Rattle.operation.proofs.Readings.{either-row, shown-by, not-shown}

@@ -9,18 +9,17 @@ use Rattle.element.specs.Octets.{Octets, AreOctets}
 use Rattle.element.specs.Answer.{Answer, accepted, refused}
 use Rattle.component.specs.declared.Heading as G
 use Rattle.component.specs.declared.Count.the-variants as CV
-use Rattle.component.specs.Layout.{parameters, Layout, layoutAt}
-use Rattle.component.specs.Shown.{specifierIn}
+use Rattle.component.specs.Layout.{parameters, Layout, layoutAt, specifierIn}
 use Rattle.component.specs.Outline.{headingOf, headingsAt}
 use Rattle.component.specs.Table.{tableWith}
 use Rattle.component.proofs.Laying.{ordered, laid, not-laid, no-head}
 use Rattle.operation.specs.declared.Judged as J
-use Rattle.operation.specs.Coded.{itemsFrom, verdict, judgedIn}
+use Rattle.operation.specs.inner.Coded.{itemsFrom, verdict, judgedIn}
 use Rattle.operation.specs.Caller.{Told}
 use Rattle.operation.specs.Reading.{Shown, readingAt, tableAfter}
 use Rattle.operation.specs.Told.{told}
-use Rattle.operation.specs.Sheet.{Walked}
-use Rattle.operation.specs.Finishing.{specifierFor, Pointing, finished, tableFinished}
+use Rattle.operation.specs.inner.Sheet.{Walked}
+use Rattle.operation.specs.inner.Finishing.{specifierFor, Pointing, finished, tableFinished}
 use Rattle.operation.proofs.Readings.{laid-reads}
 use Rattle.operation.proofs.Reached.{own, answers, tables, pointing}
 

@@ -10,8 +10,7 @@ use borrow.Author.Tests.{le-leb, lt-ltb, lt-leb}
 use native.Mathlib.Omega.{arith}
 use Rattle.element.specs.Octets.{Octets, if}
 use Rattle.element.specs.Answer.{Answer, accepted, refused, _>>_, check}
-use Rattle.component.specs.Layout.{headAt, Layout, layoutFrom, layoutAt, layoutOf}
-use Rattle.component.specs.Shown.{specifierIn}
+use Rattle.component.specs.Layout.{headAt, Layout, layoutFrom, layoutAt, layoutOf, specifierIn}
 use Rattle.component.proofs.Ends.{Ends, gives, stops}
 use Rattle.operation.specs.Row.{Row}
 use Rattle.operation.specs.Judge.{judge}

@@ -10,8 +10,8 @@ use native.Mathlib.Nat.{zero-add, add-zero}
 use Rattle.element.specs.Answer.{Answer, accepted, refused, _>>_}
 use Rattle.operation.specs.Row.{Row, Item, named, repeats, key}
 use Rattle.operation.specs.Judge.{occurs, once, countNamed}
-use Rattle.operation.specs.Coded.{itemAt, itemsFrom}
-use Rattle.operation.specs.Firsts.{onceCounted}
+use Rattle.operation.specs.inner.Coded.{itemAt, itemsFrom}
+use Rattle.operation.specs.inner.Firsts.{onceCounted}
 use Rattle.operation.proofs.Entries.{rest, earlier, all, over, more, one-more}
 
 -- what is left from `at` on, with `n` of the entries before it named

@@ -1,6 +1,6 @@
 -- Demand 3 of ours: a component with newcomers that its row does not name is read as without them.
 use Prim.Native.Nat.{ℕ, _+_, _≤_}
-use mathlib.Core.Path.{_≡_, refl, ap, ap₂, _∙_}
+use mathlib.Core.Path.{_≡_, refl, ap, _∙_}
 use mathlib.Core.Bool.{Bool, true, false, not}
 use mathlib.Core.List.{List, map}
 use mathlib.Core.Logic.{inl, inr}
@@ -12,13 +12,14 @@ use Rattle.element.specs.Answer.{Answer, accepted, refused}
 use Rattle.component.specs.Table.{tableWith}
 use Rattle.component.specs.Grammar.{Parameter, Component, parametersOf, kindOf, identifierOf, specifierOf}
 use Rattle.component.specs.Faults.{LaidOut}
-use Rattle.component.specs.Shown.{Shows, Pairwise}
+use Rattle.component.proofs.Shown.{Shows, Pairwise}
 use Rattle.component.specs.Standing.{standing}
 use Rattle.component.proofs.Complete.{complete}
 use Rattle.operation.specs.Row.{Row, named as names}
 use Rattle.operation.specs.Judge.{judge, pointed}
 use Rattle.operation.specs.Faults.{RowFault, again, missing, both}
 use Rattle.operation.specs.Items.{itemOf}
+use Rattle.operation.specs.Caller.{read}
 use Rattle.operation.specs.Demands.{RowFor, keyOf, tally, ReaderRefuses, tells, Joined, done, kept, newcomer, moved, newcomers, joined, placeIn, Truthful, both-accepted, same-missing, same-parameter, Demand3}
 use Rattle.operation.specs.Model.{reader, Ours}
 use Rattle.operation.proofs.Untouched.{untouched}
@@ -58,15 +59,11 @@ module _ (given : ℕ) (t : List ℕ) (enough : 256 ≤ length t) {row : Row} wh
     shows : Pairwise (Shows s) (standing (h .laid)) (parametersOf c)
     shows = let (l, _, r) = complete (h .laid) (h .within) (h .few) in rw (r .entries) at (r .outlines .shows)
 
-    all-right : judge row (map itemOf (standing (h .laid))) ≡ accepted tt → reader s given t ≡ record { answer = accepted (tells given c row); table = tableWith (standing (h .laid)) t }
-    all-right j =
-        let (p, q) = reader-accepts s o given t (record { enough = enough; laid-out = h; has-row = e; fits = fits-read row shows .0 j }) in
-        ap₂ (λ a t. record { answer = a; table = t }) p q
+    all-right : judge row (map itemOf (standing (h .laid))) ≡ accepted tt → reader s given t ≡ read (accepted (tells given c row)) (tableWith (standing (h .laid)) t)
+    all-right j = reader-accepts s o given t (record { enough = enough; laid-out = h; has-row = e; fits = fits-read row shows .0 j })
 
-    not-right : {n d : ℕ} → judge row (map itemOf (standing (h .laid))) ≡ refused n d → reader s given t ≡ record { answer = refused n d; table = t }
-    not-right j =
-        let (p, q) = refused-so s o given t (reader-refuses s o given t (ReaderRefuses.misfit enough h e (row-faulty row _ j))) in
-        ap₂ (λ a t. record { answer = a; table = t }) p q
+    not-right : {n d : ℕ} → judge row (map itemOf (standing (h .laid))) ≡ refused n d → reader s given t ≡ read (refused n d) t
+    not-right j = refused-so s o given t (reader-refuses s o given t (ReaderRefuses.misfit enough h e (row-faulty row _ j)))
 
   module _ {c d : Component} {s u : Octets} (o : AreOctets s) (b : AreOctets u) (h : LaidOut c s) (k : LaidOut d u)
       (kind : kindOf d ≡ kindOf c) (id : identifierOf d ≡ identifierOf c) (specifier : specifierOf d given ≡ specifierOf c given)
@@ -90,7 +87,7 @@ module _ (given : ℕ) (t : List ℕ) (enough : 256 ≤ length t) {row : Row} wh
     told-more = rw (specifier, kind, id, more-parameters j, as-many-named j, more-others j)
 
     refused-both : (n i : ℕ) → RowFault row (indexed (parametersOf c)) n i →
-        Truthful (h .laid) (k .laid) j t (record { answer = refused n (if (eqb n 13) i (f i)); table = t }) (record { answer = refused n (if (eqb n 13) i (g i)); table = t })
+        Truthful (h .laid) (k .laid) j t (read (refused n (if (eqb n 13) i (f i))) t) (read (refused n (if (eqb n 13) i (g i))) t)
     refused-both n i (again before x behind e o m r u) =
         let (y, mem, mark) = pointed-at (again before x behind e o m r u) (λ z. omega arith) in
         (same-parameter 12 (x .mark) (inl refl) (rw mark at (inside (parametersOf c) mem)))
@@ -104,7 +101,7 @@ module _ (given : ℕ) (t : List ℕ) (enough : 256 ≤ length t) {row : Row} wh
     verdict (accepted _) q =
         let p = all-right o h e (older ∙ ap (pointed f) q) in
         let r = all-right b k its-row (newer ∙ ap (pointed g) q) in
-        rw (p, r ∙ ap (λ x. record { answer = accepted x; table = tableWith (standing (k .laid)) t }) told-more) (both-accepted (tells given c row))
+        rw (p, r ∙ ap (λ x. read (accepted x) (tableWith (standing (k .laid)) t)) told-more) (both-accepted (tells given c row))
     verdict (refused n i) q =
         let p = not-right o h e (older ∙ ap (pointed f) q) in
         let r = not-right b k its-row (newer ∙ ap (pointed g) q) in

@@ -6,7 +6,7 @@ use mathlib.Core.List.{List, [], _∷_}
 use borrow.Author.Tests.{ne-eqb}
 use Rattle.operation.specs.Row.{Row, Line, must, oneOf, may, Item, onLine, named}
 use Rattle.operation.specs.Judge.{occurs, lastMark, once, present, single, judge, countNamed}
-use Rattle.operation.specs.Newcomers.{Grown, done, kept, newcomer}
+use Rattle.operation.proofs.Newcomers.{Grown, done, kept, newcomer}
 use Rattle.operation.proofs.Lines.{or-false, self}
 
 -- what the row names occurs in both or in neither

@@ -9,8 +9,8 @@ use Rattle.operation.specs.Row.{Row, Item}
 use Rattle.operation.specs.Judge.{once, present, single, judge, countNamed}
 use Rattle.operation.specs.Finding.{rowOf, find}
 use Rattle.operation.specs.Rows.{operations}
-use Rattle.operation.specs.Coded.{judgement, verdict}
-use Rattle.operation.specs.Firsts.{onceCounted}
+use Rattle.operation.specs.inner.Coded.{judgement, verdict}
+use Rattle.operation.specs.inner.Firsts.{onceCounted}
 
 -- ---- the searches
 

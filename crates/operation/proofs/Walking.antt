@@ -14,7 +14,7 @@ use Rattle.component.specs.Table.{Entry, next, numbers, tableWith}
 use Rattle.component.specs.Layout.{parameterFrom, parameters}
 use Rattle.component.proofs.Entries.{numbers-length}
 use Rattle.component.proofs.Laying.{parameter-within}
-use Rattle.operation.specs.Sheet.{Walked}
+use Rattle.operation.specs.inner.Sheet.{Walked}
 
 abbrev four : Entry → List ℕ
 four e = e .number ∷ e .form ∷ e .start ∷ e .size ∷ []

@@ -19,10 +19,9 @@ use Rattle.component.proofs.Measuring.{sizesOf, ready}
 use Rattle.operation.specs.Row.{Row, Item}
 use Rattle.operation.specs.Judge.{judge, countNamed}
 use Rattle.operation.specs.Finding.{rowOf}
-use Rattle.operation.specs.Coded.{itemAt, itemsFrom, judgement, verdict}
+use Rattle.operation.specs.inner.Coded.{itemAt, itemsFrom, judgement, verdict, said}
 use Rattle.operation.specs.Items.{itemsOf}
-use Rattle.operation.specs.Writing.{writing}
-use Rattle.operation.specs.Weighing.{said, weighing}
+use Rattle.operation.specs.Writing.{writing, weighing}
 use Rattle.operation.proofs.RowFaults.{row-faulty, pointed-at}
 use Rattle.operation.proofs.Readings.{either-row}
 

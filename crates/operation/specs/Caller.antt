@@ -18,6 +18,9 @@ pub record Read : Type 0 where
   pub answer : Answer Told
   pub table : List ℕ
 
+abbrev pub read : Answer Told → (table : List ℕ) → Read
+read answer table = record { answer = answer; table = table }
+
 abbrev pub Reader : Type 0
 Reader = (octets : Octets) (specifier : ℕ) (table : List ℕ) → Read
 
@@ -37,6 +40,9 @@ order kind id specifier count table source =
 pub record Wrote : Type 0 where
   pub answer : Answer ℕ
   pub output : Octets
+
+abbrev pub wrote : Answer ℕ → (output : Octets) → Wrote
+wrote answer output = record { answer = answer; output = output }
 
 abbrev pub Writer : Type 0
 Writer = (order : Order) (output : Octets) → Wrote

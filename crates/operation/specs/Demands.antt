@@ -1,5 +1,6 @@
--- The three demands, to be read beside the paper: what is asked of any reader and any writer, by what a caller sees of them. The words are
--- the grammar, the faults, and the book's table. `Model` names ours: it satisfies them, and no other does.
+-- The three demands, to be read beside the paper: what is asked of any reader and any writer, by what a caller sees
+-- of them. The words are the grammar, the faults and the book's table. `Model` names ours: it satisfies them, and no
+-- other does.
 use Prim.Native.Nat.{ℕ, zero, suc, _+_, _*_, _<_, _≤_}
 use mathlib.Core.Path.{_≡_}
 use mathlib.Core.Bool.{Bool, false, not}
@@ -19,7 +20,7 @@ use Rattle.operation.specs.Rows.{operations}
 use Rattle.operation.specs.Book.{Fits}
 use Rattle.operation.specs.Faults.{RowFault}
 use Rattle.operation.specs.Items.{itemOf, itemsOf}
-use Rattle.operation.specs.Caller.{Told, Read, Reader, Order, order, Writer}
+use Rattle.operation.specs.Caller.{Told, Read, read, Reader, Order, order, wrote, Writer}
 
 abbrev pub keyOf : Parameter → ℕ
 keyOf p = key (p .number) (p .form)
@@ -36,14 +37,16 @@ unfoldable pub tally : (ℕ → Bool) → List ℕ → ℕ
 tally test [] = 0
 tally test (k ∷ ks) = if (test k) (1 + tally test ks) (tally test ks)
 
--- ---- the reader: 1, the faults of the octets, 11, and the faults of the run against its row, each parameter marked by its place
+-- ---- the reader: 1, the faults of the octets, 11, and the faults of the run against its row, each parameter marked by
+-- its place
 pub data ReaderRefuses (s : Octets) (given : ℕ) (t : List ℕ) : (number detail : ℕ) → Type 0 where
   table : length t < 256 → ReaderRefuses s given t 1 0
   fault : {n d : ℕ} → 256 ≤ length t → Faulty n d s → ReaderRefuses s given t n d
   no-row : {c : Component} → 256 ≤ length t → (h : LaidOut c s) → NoRow (kindOf c) (specifierOf c given) →
       ReaderRefuses s given t 11 (specifierPlace (h .laid))
-  misfit : {c : Component} {row : Row} {n d : ℕ} → 256 ≤ length t → (h : LaidOut c s) → RowFor (kindOf c) (specifierOf c given) row →
-      RowFault row (map itemOf (standing (h .laid))) n d → ReaderRefuses s given t n d
+  misfit : {c : Component} {row : Row} {n d : ℕ} → 256 ≤ length t → (h : LaidOut c s) →
+      RowFor (kindOf c) (specifierOf c given) row → RowFault row (map itemOf (standing (h .laid))) n d →
+      ReaderRefuses s given t n d
 
 -- laid out within the limits, with a row, and as the book's table has it
 pub record Right (s : Octets) (given : ℕ) (t : List ℕ) (c : Component) (row : Row) : Type 0 where
@@ -64,7 +67,8 @@ tells given c row =
       other = tally (λ k. not (names row k)) (map keyOf (parametersOf c));
     }
 
--- ---- the writer: 3, 6, 10, 1, 16, 15, 11, the faults of the run against its row, each parameter marked by its entry, 17
+-- ---- the writer: 3, 6, 10, 1, 16, 15, 11, the faults of the run against its row, each parameter marked by its entry,
+-- and 17
 pub record EntryStands (o : Order) (i : ℕ) : Type 0 where
   pub number : getD (o .table) (4 * i) 0 ≤ 16383
   pub form : getD (o .table) (4 * i + 1) 0 ≤ 1
@@ -78,6 +82,9 @@ needed o = octetsNeeded (o .kind) (o .id .count) (ordered o)
 
 abbrev pub made : Order → Component
 made o = componentOf (o .kind) (o .id) (o .specifier) (ordered o)
+
+abbrev pub octetsFor : Order → Octets
+octetsFor o = composed (made o)
 
 -- the entries are there
 pub record Held (o : Order) : Type 0 where
@@ -94,14 +101,16 @@ pub data WriterRefuses (o : Order) (out : Octets) : (number detail : ℕ) → Ty
   no-type : (Typed (o .kind) → ⊥) → WriterRefuses o out 3 0
   no-id : Typed (o .kind) → (Allowed (o .kind) (o .id .count) → ⊥) → WriterRefuses o out 6 0
   too-many : Allowed (o .kind) (o .id .count) → 64 < o .count → WriterRefuses o out 10 0
-  no-table : Allowed (o .kind) (o .id .count) → o .count ≤ 64 → length (o .table) < 4 * o .count → WriterRefuses o out 1 0
-  no-entry : {i : ℕ} → Held o → i < o .count → ((j : ℕ) → j < i → EntryStands o j) → (EntryStands o i → ⊥) → WriterRefuses o out 16 i
+  no-table : Allowed (o .kind) (o .id .count) → o .count ≤ 64 → length (o .table) < 4 * o .count →
+      WriterRefuses o out 1 0
+  no-entry : {i : ℕ} → Held o → i < o .count → ((j : ℕ) → j < i → EntryStands o j) → (EntryStands o i → ⊥) →
+      WriterRefuses o out 16 i
   too-long : Held o → ((i : ℕ) → i < o .count → EntryStands o i) → 4096 < needed o → WriterRefuses o out 15 (needed o)
   no-row : Ready o → NoRow (o .kind) (o .specifier) → WriterRefuses o out 11 0
-  misfit : {row : Row} {n d : ℕ} → Ready o → RowFor (o .kind) (o .specifier) row → RowFault row (itemsOf 0 (ordered o)) n d →
-      WriterRefuses o out n d
-  no-room : {row : Row} → Ready o → RowFor (o .kind) (o .specifier) row → Fits row (map keyOf (ordered o)) → length out < needed o →
-      WriterRefuses o out 17 (needed o)
+  misfit : {row : Row} {n d : ℕ} → Ready o → RowFor (o .kind) (o .specifier) row →
+      RowFault row (itemsOf 0 (ordered o)) n d → WriterRefuses o out n d
+  no-room : {row : Row} → Ready o → RowFor (o .kind) (o .specifier) row → Fits row (map keyOf (ordered o)) →
+      length out < needed o → WriterRefuses o out 17 (needed o)
 
 pub record Writable (o : Order) (out : Octets) (row : Row) : Type 0 where
   pub ready : Ready o
@@ -113,25 +122,39 @@ pub record Writable (o : Order) (out : Octets) (row : Row) : Type 0 where
 pub record Demand1 (r : Reader) (w : Writer) : Type 0 where
   pub reader : (s : Octets) (given : ℕ) (t : List ℕ) {n d : ℕ} → AreOctets s → r s given t .answer ≡ refused n d →
       ReaderRefuses s given t n d × (r s given t .table ≡ t)
-  pub writer : (o : Order) (out : Octets) {n d : ℕ} → w o out .answer ≡ refused n d → WriterRefuses o out n d × (w o out .output ≡ out)
+  pub writer : (o : Order) (out : Octets) {n d : ℕ} → w o out .answer ≡ refused n d →
+      WriterRefuses o out n d × (w o out .output ≡ out)
 
 -- ---- demand 2: accepted is exactly what is right; reading and writing undo one another
+
+-- what was ordered is read again from its octets: type, ID octets, specifier, identifiers and contents
+pub record ReadAgain (r : Reader) (o : Order) (s : Octets) (t : List ℕ) : Type 0 where
+  pub told : Told
+  pub accepts : r s (o .specifier) t .answer ≡ accepted told
+  pub kind : told .kind ≡ o .kind
+  pub id : told .id ≡ idOf (idOctets (o .id))
+  pub specifier : told .specifier ≡ o .specifier
+  pub count : told .all ≡ o .count
+  pub parameters : parametersFrom 0 (told .all) (r s (o .specifier) t .table) s ≡ ordered o
+
 pub record Demand2 (r : Reader) (w : Writer) : Type 0 where
   pub reader : (s : Octets) (given : ℕ) (t : List ℕ) {x : Told} → AreOctets s → r s given t .answer ≡ accepted x →
       (c : Component) × (row : Row) × Right s given t c row
-  pub shown : (s : Octets) (given : ℕ) (t : List ℕ) {c : Component} {row : Row} → AreOctets s → (h : Right s given t c row) →
-      (r s given t .answer ≡ accepted (tells given c row)) × (r s given t .table ≡ tableWith (standing (h .laid-out .laid)) t)
+  pub shown : (s : Octets) (given : ℕ) (t : List ℕ) {c : Component} {row : Row} → AreOctets s →
+      (h : Right s given t c row) →
+      r s given t ≡ read (accepted (tells given c row)) (tableWith (standing (h .laid-out .laid)) t)
   pub writer : (o : Order) (out : Octets) {n : ℕ} → w o out .answer ≡ accepted n → (row : Row) × Writable o out row
   pub written : (o : Order) (out : Octets) {row : Row} → Writable o out row →
-      (w o out .answer ≡ accepted (length (composed (made o)))) × (w o out .output ≡ composed (made o) ++ drop (length (composed (made o))) out)
+      w o out ≡ wrote (accepted (length (octetsFor o))) (octetsFor o ++ drop (length (octetsFor o)) out)
   -- writing what was read returns the same octets
-  pub read-then-write : (s : Octets) (given : ℕ) (t : List ℕ) (out : Octets) {x : Told} → AreOctets s → r s given t .answer ≡ accepted x →
-      length s ≤ length out → w (order (x .kind) (x .id) (x .specifier) (x .all) (r s given t .table) s) out ≡ record { answer = accepted (length s); output = s ++ drop (length s) out }
-  -- reading what was written returns the same type, ID octets, specifier, identifiers and contents
-  pub write-then-read : (o : Order) (out : Octets) (t : List ℕ) {n : ℕ} → o .specifier < 256 → w o out .answer ≡ accepted n → 256 ≤ length t →
-      AreOctets (take n (w o out .output)) → (x : Told) × (r (take n (w o out .output)) (o .specifier) t .answer ≡ accepted x)
-      × (x .kind ≡ o .kind) × (x .id ≡ idOf (idOctets (o .id))) × (x .specifier ≡ o .specifier) × (x .all ≡ o .count)
-      × (parametersFrom 0 (x .all) (r (take n (w o out .output)) (o .specifier) t .table) (take n (w o out .output)) ≡ ordered o)
+  pub read-then-write : (s : Octets) (given : ℕ) (t : List ℕ) (out : Octets) {x : Told} → AreOctets s →
+      r s given t .answer ≡ accepted x → length s ≤ length out →
+      w (order (x .kind) (x .id) (x .specifier) (x .all) (r s given t .table) s) out
+      ≡ wrote (accepted (length s)) (s ++ drop (length s) out)
+  -- reading what was written returns what was ordered
+  pub write-then-read : (o : Order) (out : Octets) (t : List ℕ) {n : ℕ} → o .specifier < 256 →
+      w o out .answer ≡ accepted n → 256 ≤ length t → AreOctets (take n (w o out .output)) →
+      ReadAgain r o (take n (w o out .output)) t
 
 -- ---- demand 3: what a row does not name changes nothing of its verdict
 
@@ -139,7 +162,8 @@ pub record Demand2 (r : Reader) (w : Writer) : Type 0 where
 pub data Joined (row : Row) : List Parameter → List Parameter → Type 0 where
   done : Joined row [] []
   kept : (p : Parameter) {ps qs : List Parameter} → Joined row ps qs → Joined row (p ∷ ps) (p ∷ qs)
-  newcomer : (p : Parameter) {ps qs : List Parameter} → names row (keyOf p) ≡ false → Joined row ps qs → Joined row ps (p ∷ qs)
+  newcomer : (p : Parameter) {ps qs : List Parameter} → names row (keyOf p) ≡ false → Joined row ps qs →
+      Joined row ps (p ∷ qs)
 
 -- where the i-th parameter of the one stands in the other
 unfoldable pub moved : {row : Row} {ps qs : List Parameter} → Joined row ps qs → ℕ → ℕ
@@ -161,20 +185,29 @@ placeIn (e ∷ es) (suc i) = placeIn es i
 
 -- the same, with so many other parameters more
 abbrev pub joined : Told → ℕ → Told
-joined a n = record { kind = a .kind; id = a .id; specifier = a .specifier; all = a .all + n; named = a .named; other = a .other + n }
+joined a n =
+    record {
+      kind = a .kind;
+      id = a .id;
+      specifier = a .specifier;
+      all = a .all + n;
+      named = a .named;
+      other = a .other + n;
+    }
 
 -- what is said of the newer component, beside what is said of the older
-pub data Truthful {c d : Component} {s u : Octets} (x : Laid c s) (y : Laid d u) {row : Row} (j : Joined row (parametersOf c) (parametersOf d))
-    (t : List ℕ) : Read → Read → Type 0 where
-  both-accepted : (a : Told) → Truthful x y j t (record { answer = accepted a; table = tableWith (standing x) t })
-      (record { answer = accepted (joined a (newcomers j)); table = tableWith (standing y) t })
-  same-missing : (number : ℕ) → Truthful x y j t (record { answer = refused 13 number; table = t }) (record { answer = refused 13 number; table = t })
+pub data Truthful {c d : Component} {s u : Octets} (x : Laid c s) (y : Laid d u) {row : Row}
+    (j : Joined row (parametersOf c) (parametersOf d)) (t : List ℕ) : Read → Read → Type 0 where
+  both-accepted : (a : Told) → Truthful x y j t (read (accepted a) (tableWith (standing x) t))
+      (read (accepted (joined a (newcomers j))) (tableWith (standing y) t))
+  same-missing : (number : ℕ) → Truthful x y j t (read (refused 13 number) t) (read (refused 13 number) t)
   same-parameter : (n i : ℕ) → (n ≡ 12) ⊎ (n ≡ 14) → i < length (parametersOf c) → Truthful x y j t
-      (record { answer = refused n (placeIn (standing x) i); table = t }) (record { answer = refused n (placeIn (standing y) (moved j i)); table = t })
+      (read (refused n (placeIn (standing x) i)) t) (read (refused n (placeIn (standing y) (moved j i))) t)
 
 pub record Demand3 (r : Reader) : Type 0 where
-  pub truthful : (given : ℕ) (c d : Component) (s u : Octets) (t : List ℕ) {row : Row} → AreOctets s → AreOctets u → 256 ≤ length t →
-      (h : LaidOut c s) (k : LaidOut d u) → kindOf d ≡ kindOf c → identifierOf d ≡ identifierOf c → specifierOf d given ≡ specifierOf c given →
+  pub truthful : (given : ℕ) (c d : Component) (s u : Octets) (t : List ℕ) {row : Row} → AreOctets s → AreOctets u →
+      256 ≤ length t → (h : LaidOut c s) (k : LaidOut d u) → kindOf d ≡ kindOf c →
+      identifierOf d ≡ identifierOf c → specifierOf d given ≡ specifierOf c given →
       RowFor (kindOf c) (specifierOf c given) row → (j : Joined row (parametersOf c) (parametersOf d)) →
       Truthful (h .laid) (k .laid) j t (r s given t) (r u given t)
 

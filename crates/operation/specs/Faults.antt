@@ -39,9 +39,11 @@ Doubled ks (may j) = ⊥
 pub data RowFault (row : Row) (xs : List Item) : (number detail : ℕ) → Type 0 where
   -- 12: the earliest second; what stands before it has none
   again : (before : List Item) (x : Item) (behind : List Item) → xs ≡ before ++ (x ∷ behind) → Once row (keysOf before)
-      → named row (x .is) ≡ true → repeats (x .is) ≡ false → 1 ≤ times (x .is) (keysOf before) → RowFault row xs 12 (x .mark)
+      → named row (x .is) ≡ true → repeats (x .is) ≡ false → 1 ≤ times (x .is) (keysOf before) →
+      RowFault row xs 12 (x .mark)
   -- 13: no second, and the first line in row order that nothing meets
   missing : {l : Line} → Once row (keysOf xs) → First (Unmet (keysOf xs)) row l → RowFault row xs 13 (asks l)
   -- 14: neither, and of a choice with both members the later
-  both : {l : Line} {x : Item} → Once row (keysOf xs) → Each (λ l. Unmet (keysOf xs) l → ⊥) row → First (Doubled (keysOf xs)) row l
+  both : {l : Line} {x : Item} → Once row (keysOf xs) → Each (λ l. Unmet (keysOf xs) l → ⊥) row →
+      First (Doubled (keysOf xs)) row l
       → Last (λ y. onLine l (y .is) ≡ true) xs x → RowFault row xs 14 (x .mark)

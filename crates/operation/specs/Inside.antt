@@ -1,4 +1,5 @@
--- A component inside other octets, as a package has it: read from its start, it is read as it is alone, and each place counts from the
+-- A component inside other octets, as a package has it: read from its start, it is read as it is alone, and each
+-- place counts from the
 -- start of those octets.
 use Prim.Native.Nat.{ℕ}
 use mathlib.Core.Path.{_≡_}

@@ -9,17 +9,17 @@ use Rattle.component.specs.Composing.{written, outputAfter}
 use Rattle.operation.specs.Reading.{reading, tableAfter}
 use Rattle.operation.specs.Writing.{writing}
 use Rattle.operation.specs.Told.{told}
-use Rattle.operation.specs.Caller.{Reader, Order, Writer}
+use Rattle.operation.specs.Caller.{read, Reader, Order, wrote, Writer}
 use Rattle.operation.specs.Demands.{Demands}
 
 abbrev pub reader : Reader
-reader s given t = record { answer = told (reading s given (length t)); table = tableAfter t (reading s given (length t)) }
+reader s given t = read (told (reading s given (length t))) (tableAfter t (reading s given (length t)))
 
 abbrev pub written-as : Order → (room : ℕ) → Answer Octets
 written-as o room = writing (o .kind) (o .id) (o .specifier) (o .count) (o .table) (o .source) room
 
 abbrev pub writer : Writer
-writer o out = record { answer = written (written-as o (length out)); output = outputAfter out (written-as o (length out)) }
+writer o out = wrote (written (written-as o (length out))) (outputAfter out (written-as o (length out)))
 
 -- ours satisfies the demands
 unfoldable pub Ours : Type 0
@@ -28,4 +28,5 @@ Ours = Demands reader writer
 -- and whatever satisfies them gives, for all inputs, the same answer and the same lent buffers
 unfoldable pub OnlyOne : Type 0
 OnlyOne = (r : Reader) (w : Writer) → Demands r w →
-    ((s : Octets) (given : ℕ) (t : List ℕ) → AreOctets s → r s given t ≡ reader s given t) × ((o : Order) (out : Octets) → w o out ≡ writer o out)
+    ((s : Octets) (given : ℕ) (t : List ℕ) → AreOctets s → r s given t ≡ reader s given t)
+    × ((o : Order) (out : Octets) → w o out ≡ writer o out)

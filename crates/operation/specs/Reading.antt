@@ -5,8 +5,7 @@ use lib.Dec.{leb}
 use Rattle.element.specs.Octets.{Octets, if, between}
 use Rattle.element.specs.Answer.{Answer, accepted, refused, _>>=_, _>>_, check}
 use Rattle.component.specs.Table.{Entry, tableWith}
-use Rattle.component.specs.Layout.{Layout, layoutFrom, layoutAt}
-use Rattle.component.specs.Shown.{specifierIn}
+use Rattle.component.specs.Layout.{Layout, layoutFrom, layoutAt, specifierIn}
 use Rattle.operation.specs.Row.{Row, Item, named}
 use Rattle.operation.specs.Judge.{judge, countNamed}
 use Rattle.operation.specs.Finding.{rowOf}

@@ -32,7 +32,8 @@ named (l ∷ ls) k = onLine l k || named ls k
 unfoldable pub repeats : ℕ → Bool
 repeats k = eqb k (key 4 0)
 
--- what a row judges: a key, and the mark by which a refusal points to it, a place to the reader and an entry to the writer
+-- what a row judges: a key, and the mark by which a refusal points to it, a place to the reader and an entry to the
+-- writer
 pub record Item : Type 0 where
   pub is : ℕ
   pub mark : ℕ

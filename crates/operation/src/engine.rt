@@ -1,23 +1,18 @@
 // The judgement of a row over a table of entries: 12, 13 and 14, in their order.
-use super::Both;
 use super::Judged;
 use super::Missing;
+use super::Notes;
 use super::Repeat;
 use super::rows::DIGITS;
-use super::rows::MUST;
-use super::rows::ONE_OF;
-use super::rows::OR;
 ghost use mathlib.Core.Path.{_≡_};
 ghost use Prim.Native.Nat.{_+_, _*_, _<_, _≤_};
-ghost use mathlib.Core.Bool.{true, false};
-ghost use lib.ListN.{length, replicate};
-ghost use Rattle.operation.specs.Row.{onLine};
-ghost use Rattle.operation.specs.Judge.{occurs, lastMark, single};
-ghost use Rattle.operation.specs.Coded.{lineIn, rowIn, itemAt, itemsFrom, judgement, judgedIn};
-ghost use Rattle.operation.specs.Firsts.{onceCounted, repeatIn, missingIn, bothIn};
-ghost use Rattle.operation.specs.Noting.{lineOf, distinct, asked, Noted};
+ghost use lib.ListN.{length};
+ghost use Rattle.operation.specs.Row.{oneOf};
+ghost use Rattle.operation.specs.Judge.{lastMark};
+ghost use Rattle.operation.specs.inner.Coded.{holds, itemAt, itemsFrom};
+ghost use Rattle.operation.specs.inner.Firsts.{missingIn, lacking, Walked, Settles};
 
-// ---- a line of a row, and an entry of a table
+// ---- a set of keys, and an entry of a table
 
 pub(crate) fn wide(x: u16) -> u64
     ensures { λ r. ⌜ (r ≡ x) × (r < 65536) ⌝ }
@@ -35,57 +30,33 @@ fn key_at(table: &[u16], entry: usize) -> u64
     number * 2 + form
 }
 
-fn line_names(line: u64, key: u64) -> bool
-    ensures { λ r. ⌜ r ≡ onLine (lineIn line) key ⌝ }
+// Whether a key is in a set: one bit for each key, 64 to a word. Beyond the words there is none.
+fn has(set: &[u64], key: u64) -> bool
+    ensures { λ r. ⌜ r ≡ holds (now (set .entry)) key ⌝ }
 {
-    if key == line % OR {
-        return true;
-    }
-    if line < ONE_OF {
-        return false;
-    }
-    key == line / OR % OR
-}
-
-// The first line that names the key; none: how many lines there are.
-fn row_line(row: &[u64], key: u64) -> usize
-    ensures { λ r. ⌜ r ≡ lineOf (rowIn (now (row .entry))) key ⌝ }
-{
-    let mut at: usize = 0;
-    while at < row.len() {
-        if line_names(row[at], key) {
-            return at;
-        }
-        at = at + 1;
-    }
-    at
-}
-
-fn occurs(table: &[u16], key: u64, count: usize) -> bool
-    requires { ⌜ (4 * count ≤ length (now table)) × (count ≤ 64) ⌝ }
-    ensures { λ r. ⌜ r ≡ occurs key (itemsFrom (now (table .entry)) 0 count) ⌝ }
-{
-    let mut at: usize = 0;
-    while at < count {
-        if key_at(table, at) == key {
-            return true;
-        }
-        at = at + 1;
+    let word = (key / 64) as usize;
+    if word < set.len() {
+        return (set[word] >> (key % 64)) % 2 == 1;
     }
     false
 }
 
-// The last entry that a line names.
-fn last_on(line: u64, table: &[u16], count: usize) -> usize
+// The last entry that is one of two.
+fn last_of(one: u64, other: u64, table: &[u16], count: usize) -> usize
     requires { ⌜ (4 * count ≤ length (now table)) × (count ≤ 64) ⌝ }
-    ensures { λ r. ⌜ r ≡ lastMark (lineIn line) 0 (itemsFrom (now (table .entry)) 0 count) ⌝ }
+    ensures { λ r. ⌜ r ≡ lastMark (oneOf one other) 0 (itemsFrom (now (table .entry)) 0 count) ⌝ }
 {
     let mut last: usize = 0;
     let mut at: usize = 0;
     while at < count {
         let next = at + 1;
-        if line_names(line, key_at(table, at)) {
+        let key = key_at(table, at);
+        if key == one {
             last = at;
+        } else {
+            if key == other {
+                last = at;
+            }
         }
         at = next;
     }
@@ -94,29 +65,28 @@ fn last_on(line: u64, table: &[u16], count: usize) -> usize
 
 // ---- the judgement
 
-// 12: the first entry that occurred before, of those that the row names and may not repeat. It notes the lines that it
-// meets, and an entry whose line was not met did not occur before.
-fn first_repeat(row: &[u64], table: &[u16], count: usize, met: &mut [bool]) -> Repeat
-    requires { ⌜ (4 * count ≤ length (now table)) × (count ≤ 64)
-        × (length (now row) ≤ 8) × (now met ≡ replicate 8 false) ⌝ }
-    ensures { λ r. ⌜ (repeatIn r ≡ onceCounted (rowIn (now (row .entry))) (itemsFrom (now (table .entry)) 0 count))
-        × Noted r (now (row .entry)) (now (met .exit)) (itemsFrom (now (table .entry)) 0 count) ⌝ }
+// 12: the first entry that occurred before, of those that the row names and may not repeat. Each that the row names is
+// noted, and one that is not noted did not occur before.
+pub(crate) fn note(names: &[u64], table: &[u16], count: usize) -> Notes
+    requires { ⌜ (4 * count ≤ length (now table)) × (count ≤ 64) × (length (now names) ≤ 13) ⌝ }
+    ensures { λ r. ⌜ Walked (r .repeat) (now (names .entry)) (r .seen) (itemsFrom (now (table .entry)) 0 count) ⌝ }
 {
+    let mut seen = [0u64; 13];
     let mut at: usize = 0;
     let mut named: usize = 0;
-    let mut shared = false;
-    let answer = 'parameters: loop {
+    let repeat = 'parameters: loop {
         if count <= at {
-            break 'parameters Repeat::None { named, shared };
+            break 'parameters Repeat::None { named };
         }
         let next = at + 1;
         let key = key_at(table, at);
-        let line = row_line(row, key);
-        if line < row.len() {
+        if has(names, key) {
             named = named + 1;
-            if met[line] {
-                shared = true;
-                if key != DIGITS {
+            let word = (key / 64) as usize;
+            let bit = key % 64;
+            let noted = seen[word];
+            if (noted >> bit) % 2 == 1 {
+                if key != DIGITS as u64 {
                     let mut before = at;
                     while 0 < before {
                         before = before - 1;
@@ -125,32 +95,32 @@ fn first_repeat(row: &[u64], table: &[u16], count: usize, met: &mut [bool]) -> R
                         }
                     }
                 }
+            } else {
+                seen[word] = noted + (1 << bit);
             }
-            met[line] = true;
         }
         at = next;
     };
-    answer
+    Notes { repeat, seen }
 }
 
-// 13: the first line that must be met and was not.
-fn first_missing(row: &[u64], met: &[bool]) -> Missing
-    requires { ⌜ length (now row) ≤ length (now met) ⌝ }
-    ensures { λ r. ⌜ missingIn r ≡ asked (rowIn (now (row .entry))) (now (met .entry)) 0 ⌝ }
+// 13: the first that must occur and was not noted. Of a choice `one` stands in the list, and the other will do.
+fn first_missing(must: &[u16], one: u64, other: u64, seen: &[u64]) -> Missing
+    ensures { λ r. ⌜ missingIn r ≡ lacking (now (must .entry)) one other (now (seen .entry)) ⌝ }
 {
     let mut at: usize = 0;
-    let answer = 'lines: loop {
-        if row.len() <= at {
-            break 'lines Missing::None;
+    let answer = 'names: loop {
+        if must.len() <= at {
+            break 'names Missing::None;
         }
         let next = at + 1;
-        if !met[at] {
-            let line = row[at];
-            if MUST <= line {
-                // Of a choice, the first member.
-                let first = line % OR;
-                let number = (first / 2) as u16;
-                break 'lines Missing::Number(number);
+        let key = wide(must[at]);
+        if !has(seen, key) {
+            if key != one {
+                break 'names Missing::Number(must[at] / 2);
+            }
+            if !has(seen, other) {
+                break 'names Missing::Number(must[at] / 2);
             }
         }
         at = next;
@@ -158,50 +128,35 @@ fn first_missing(row: &[u64], met: &[bool]) -> Missing
     answer
 }
 
-// 14: the first choice of which both occur.
-fn first_both(row: &[u64], table: &[u16], count: usize) -> Both
+// 13 and 14 by what was noted. A row with no choice gives the same key twice. The two keys are numbers and no struct:
+// by them the compiler sees what an arm does not need, and unrolls the rest there.
+pub(crate) fn settle(
+    must: &[u16],
+    one: u64,
+    other: u64,
+    table: &[u16],
+    count: usize,
+    notes: Notes,
+) -> Judged
     requires { ⌜ (4 * count ≤ length (now table)) × (count ≤ 64) ⌝ }
-    ensures { λ r. ⌜ bothIn r ≡ single (rowIn (now (row .entry))) (itemsFrom (now (table .entry)) 0 count) ⌝ }
+    ensures { λ r. ⌜ Settles (notes .repeat) r (now (must .entry)) one other (notes .seen)
+        (itemsFrom (now (table .entry)) 0 count) ⌝ }
 {
-    let mut at: usize = 0;
-    let answer = 'lines: loop {
-        if row.len() <= at {
-            break 'lines Both::None;
-        }
-        let next = at + 1;
-        let line = row[at];
-        if ONE_OF <= line {
-            if occurs(table, line % OR, count) {
-                if occurs(table, line / OR % OR, count) {
-                    break 'lines Both::At(last_on(line, table, count));
-                }
-            }
-        }
-        at = next;
-    };
-    answer
-}
-
-// What a row says of `count` entries of a table.
-pub(crate) fn judge_entries(row: &[u64], table: &[u16], count: usize) -> Judged
-    requires { ⌜ (4 * count ≤ length (now table)) × (count ≤ 64)
-        × (length (now row) ≤ 8) × (distinct (rowIn (now row)) ≡ true) ⌝ }
-    ensures { λ r. ⌜ judgedIn r ≡ judgement (rowIn (now (row .entry))) (itemsFrom (now (table .entry)) 0 count) ⌝ }
-{
-    let mut met = [false; 8];
-    match first_repeat(row, table, count, &mut met) {
+    let seen = notes.seen;
+    let repeat = notes.repeat;
+    match repeat {
         Repeat::At(entry) => Judged::Again(entry),
-        Repeat::None { named, shared } => match first_missing(row, &met) {
+        Repeat::None { named } => match first_missing(must, one, other, &seen) {
             Missing::Number(number) => Judged::Missing(number),
             Missing::None => {
-                // The members of a choice share its line.
-                if !shared {
-                    return Judged::Fits(named);
+                if one != other {
+                    if has(&seen, one) {
+                        if has(&seen, other) {
+                            return Judged::Both(last_of(one, other, table, count));
+                        }
+                    }
                 }
-                match first_both(row, table, count) {
-                    Both::At(entry) => Judged::Both(entry),
-                    Both::None => Judged::Fits(named),
-                }
+                Judged::Fits(named)
             }
         },
     }

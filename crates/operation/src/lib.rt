@@ -1,5 +1,6 @@
 // The operation rows over a component: reading and writing.
 mod engine;
+mod names;
 mod rows;
 mod sheet;
 
@@ -16,8 +17,8 @@ ghost use mathlib.Core.Path.{_≡_};
 ghost use Prim.Native.Nat.{_*_, _<_, _≤_};
 ghost use lib.ListN.{length};
 ghost use Rattle.component.specs.Told.{countIn};
-ghost use Rattle.operation.specs.Coded.{judgedIn};
-ghost use Rattle.operation.specs.Finishing.{
+ghost use Rattle.operation.specs.inner.Coded.{judgedIn, said};
+ghost use Rattle.operation.specs.inner.Finishing.{
   specifierFor,
   placeFrom,
   Pointing,
@@ -26,7 +27,7 @@ ghost use Rattle.operation.specs.Finishing.{
 };
 ghost use Rattle.operation.specs.Caller.{order};
 ghost use Rattle.operation.specs.Reading.{readingAt, tableAfter};
-ghost use Rattle.operation.specs.Weighing.{said, weighing};
+ghost use Rattle.operation.specs.Writing.{weighing};
 ghost use Rattle.operation.specs.Model.{reader, writer};
 ghost use Rattle.operation.specs.Told.{told, answerIn, writtenIn};
 
@@ -61,23 +62,22 @@ pub enum Writing {
     Refused { number: u8, detail: u32 },
 }
 
-// What the row names and occurs again, and is not Digits; else how many of the parameters the row names, and whether two of
-// them share a line.
+// What the row names and occurs again, and is not Digits; else how many of the parameters the row names.
 enum Repeat {
-    None { named: usize, shared: bool },
+    None { named: usize },
     At(usize),
+}
+
+// What a walk over the parameters found, and the keys that it noted.
+struct Notes {
+    repeat: Repeat,
+    seen: [u64; 13],
 }
 
 // What must occur and does not.
 enum Missing {
     None,
     Number(u16),
-}
-
-// A choice of which both members occur: the last entry that is one of them.
-enum Both {
-    None,
-    At(usize),
 }
 
 // ---- reader

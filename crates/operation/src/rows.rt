@@ -1,152 +1,224 @@
 // The register and the rows of the paper, and the row that an operation asks.
 use super::Judged;
-use super::engine::judge_entries;
+use super::engine::note;
+use super::engine::settle;
+use super::names;
 ghost use mathlib.Core.Path.{_≡_};
 ghost use Prim.Native.Nat.{_*_, _≤_};
 ghost use lib.ListN.{length};
-ghost use Rattle.operation.specs.Coded.{itemsFrom, verdict, judgedIn};
+ghost use Rattle.operation.specs.inner.Coded.{itemsFrom, verdict, judgedIn};
 
 // ---- the register: the number twice, for all are primitive
 
-const BILLING_ID: u64 = 2;
+pub(crate) const BILLING_ID: u16 = 2;
 
-const SERVING_CELL_ID: u64 = 4;
+pub(crate) const SERVING_CELL_ID: u16 = 4;
 
-const TARGET_CELL_ID: u64 = 6;
+pub(crate) const TARGET_CELL_ID: u16 = 6;
 
-pub(crate) const DIGITS: u64 = 8;
+pub(crate) const DIGITS: u16 = 8;
 
-const CHANNEL_DATA: u64 = 10;
+pub(crate) const CHANNEL_DATA: u16 = 10;
 
-const INTER_MSC_CIRCUIT_ID: u64 = 12;
+pub(crate) const INTER_MSC_CIRCUIT_ID: u16 = 12;
 
-const MIN: u64 = 16;
+pub(crate) const MIN: u16 = 16;
 
-const ESN: u64 = 18;
+pub(crate) const ESN: u16 = 18;
 
-const QUALIFICATION_INFORMATION_CODE: u64 = 34;
+pub(crate) const QUALIFICATION_INFORMATION_CODE: u16 = 34;
 
-const MSCID: u64 = 42;
+pub(crate) const MSCID: u16 = 42;
 
-const SYSTEM_MY_TYPE_CODE: u64 = 44;
+pub(crate) const SYSTEM_MY_TYPE_CODE: u16 = 44;
 
-const PC_SSN: u64 = 64;
+pub(crate) const PC_SSN: u16 = 64;
 
-const SMS_BEARER_DATA: u64 = 210;
+pub(crate) const SMS_BEARER_DATA: u16 = 210;
 
-const SMS_TELESERVICE_IDENTIFIER: u64 = 232;
+pub(crate) const SMS_TELESERVICE_IDENTIFIER: u16 = 232;
 
-const TRANSACTION_CAPABILITY: u64 = 246;
+pub(crate) const TRANSACTION_CAPABILITY: u16 = 246;
 
-const SMS_CAUSE_CODE: u64 = 306;
+pub(crate) const SMS_CAUSE_CODE: u16 = 306;
 
-const IMSI: u64 = 484;
+pub(crate) const IMSI: u16 = 484;
 
-// ---- the rows: what must occur, in the paper's order, then what is also named
+// ---- the rows. Of each first what must occur, in the paper's order, and of a choice its first member; then all that
+// it names, as a set: a word for 64 keys, so for 32 numbers, from number 0 on, and none behind the last that is not 0.
+// What a row must be here that was changed in the definitions is told by `harness/rows`.
 
-pub(crate) const MUST: u64 = 4294967296;
-
-pub(crate) const ONE_OF: u64 = 8589934592;
-// The other member of a choice.
-pub(crate) const OR: u64 = 65536;
-
-const HANDOFF_BACK: [u64; 6] = [
-    MUST + CHANNEL_DATA,
-    MUST + INTER_MSC_CIRCUIT_ID,
-    MUST + MIN,
-    MUST + SERVING_CELL_ID,
-    MUST + TARGET_CELL_ID,
-    BILLING_ID,
-];
-
-const HANDOFF_BACK_RESULT: [u64; 1] = [MUST + CHANNEL_DATA];
-
-const REGISTRATION_NOTIFICATION: [u64; 7] = [
-    MUST + ESN,
-    ONE_OF + MIN + OR * IMSI,
-    MUST + MSCID,
-    MUST + QUALIFICATION_INFORMATION_CODE,
-    MUST + SYSTEM_MY_TYPE_CODE,
-    PC_SSN,
-    TRANSACTION_CAPABILITY,
-];
-
-const REGISTRATION_NOTIFICATION_RESULT: [u64; 1] = [MUST + SYSTEM_MY_TYPE_CODE];
-
-const REGISTRATION_CANCELLATION_RESULT: [u64; 0] = [];
-
-const LOCATION_REQUEST: [u64; 6] = [
-    MUST + BILLING_ID,
-    MUST + DIGITS,
-    MUST + MSCID,
-    MUST + SYSTEM_MY_TYPE_CODE,
-    PC_SSN,
-    TRANSACTION_CAPABILITY,
-];
-
-const FLASH_REQUEST_RESULT: [u64; 0] = [];
-
-const INTER_SYSTEM_PAGE: [u64; 7] = [
-    MUST + BILLING_ID,
-    MUST + ESN,
-    MUST + MIN,
-    MSCID,
-    SYSTEM_MY_TYPE_CODE,
-    PC_SSN,
-    IMSI,
-];
-
-const HANDOFF_BACK2: [u64; 4] = [
-    MUST + BILLING_ID,
-    MUST + INTER_MSC_CIRCUIT_ID,
-    MUST + SERVING_CELL_ID,
-    IMSI,
-];
-
-const ANALYZED_INFORMATION_RESULT: [u64; 1] = [DIGITS];
-
-const INTER_SYSTEM_SMS_PAGE: [u64; 5] = [
-    MUST + SMS_BEARER_DATA,
-    MUST + SMS_TELESERVICE_IDENTIFIER,
+const HANDOFF_BACK_MUST: [u16; 5] = [
+    CHANNEL_DATA,
+    INTER_MSC_CIRCUIT_ID,
     MIN,
-    ESN,
-    IMSI,
+    SERVING_CELL_ID,
+    TARGET_CELL_ID,
 ];
 
-const INTER_SYSTEM_SMS_PAGE_RESULT: [u64; 2] = [SMS_BEARER_DATA, SMS_CAUSE_CODE];
+const HANDOFF_BACK_NAMES: [u64; 1] = [
+    names::CHANNEL_DATA
+        + names::INTER_MSC_CIRCUIT_ID
+        + names::MIN
+        + names::SERVING_CELL_ID
+        + names::TARGET_CELL_ID
+        + names::BILLING_ID,
+];
+
+const HANDOFF_BACK_RESULT_MUST: [u16; 1] = [CHANNEL_DATA];
+
+const HANDOFF_BACK_RESULT_NAMES: [u64; 1] = [names::CHANNEL_DATA];
+
+const REGISTRATION_NOTIFICATION_MUST: [u16; 5] = [
+    ESN,
+    MIN,
+    MSCID,
+    QUALIFICATION_INFORMATION_CODE,
+    SYSTEM_MY_TYPE_CODE,
+];
+
+const REGISTRATION_NOTIFICATION_NAMES: [u64; 8] = [
+    names::ESN
+        + names::MIN
+        + names::MSCID
+        + names::QUALIFICATION_INFORMATION_CODE
+        + names::SYSTEM_MY_TYPE_CODE,
+    names::PC_SSN,
+    0,
+    names::TRANSACTION_CAPABILITY,
+    0,
+    0,
+    0,
+    names::IMSI,
+];
+
+const REGISTRATION_NOTIFICATION_RESULT_MUST: [u16; 1] = [SYSTEM_MY_TYPE_CODE];
+
+const REGISTRATION_NOTIFICATION_RESULT_NAMES: [u64; 1] = [names::SYSTEM_MY_TYPE_CODE];
+
+const REGISTRATION_CANCELLATION_RESULT_MUST: [u16; 0] = [];
+
+const REGISTRATION_CANCELLATION_RESULT_NAMES: [u64; 0] = [];
+
+const LOCATION_REQUEST_MUST: [u16; 4] = [BILLING_ID, DIGITS, MSCID, SYSTEM_MY_TYPE_CODE];
+
+const LOCATION_REQUEST_NAMES: [u64; 4] = [
+    names::BILLING_ID + names::DIGITS + names::MSCID + names::SYSTEM_MY_TYPE_CODE,
+    names::PC_SSN,
+    0,
+    names::TRANSACTION_CAPABILITY,
+];
+
+const FLASH_REQUEST_RESULT_MUST: [u16; 0] = [];
+
+const FLASH_REQUEST_RESULT_NAMES: [u64; 0] = [];
+
+const INTER_SYSTEM_PAGE_MUST: [u16; 3] = [BILLING_ID, ESN, MIN];
+
+const INTER_SYSTEM_PAGE_NAMES: [u64; 8] = [
+    names::BILLING_ID + names::ESN + names::MIN + names::MSCID + names::SYSTEM_MY_TYPE_CODE,
+    names::PC_SSN,
+    0,
+    0,
+    0,
+    0,
+    0,
+    names::IMSI,
+];
+
+const HANDOFF_BACK2_MUST: [u16; 3] = [BILLING_ID, INTER_MSC_CIRCUIT_ID, SERVING_CELL_ID];
+
+const HANDOFF_BACK2_NAMES: [u64; 8] = [
+    names::BILLING_ID + names::INTER_MSC_CIRCUIT_ID + names::SERVING_CELL_ID,
+    0,
+    0,
+    0,
+    0,
+    0,
+    0,
+    names::IMSI,
+];
+
+const ANALYZED_INFORMATION_RESULT_MUST: [u16; 0] = [];
+
+const ANALYZED_INFORMATION_RESULT_NAMES: [u64; 1] = [names::DIGITS];
+
+const INTER_SYSTEM_SMS_PAGE_MUST: [u16; 2] = [SMS_BEARER_DATA, SMS_TELESERVICE_IDENTIFIER];
+
+const INTER_SYSTEM_SMS_PAGE_NAMES: [u64; 8] = [
+    names::MIN + names::ESN,
+    0,
+    0,
+    names::SMS_BEARER_DATA + names::SMS_TELESERVICE_IDENTIFIER,
+    0,
+    0,
+    0,
+    names::IMSI,
+];
+
+const INTER_SYSTEM_SMS_PAGE_RESULT_MUST: [u16; 0] = [];
+
+const INTER_SYSTEM_SMS_PAGE_RESULT_NAMES: [u64; 5] = [
+    0,
+    0,
+    0,
+    names::SMS_BEARER_DATA,
+    names::SMS_CAUSE_CODE,
+];
 
 // ---- the row of an operation
 
-// What the row of an invoke says of `count` entries of a table. A constant that is lent is stored where the function
-// starts, and one that an arm copies is stored there alone.
+// The members of a choice, as the engine compares them; in a row with no choice none.
+const NONE: u64 = 0;
+
+const MIN_KEY: u64 = MIN as u64;
+
+const IMSI_KEY: u64 = IMSI as u64;
+
+// What the row of an invoke says of `count` entries of a table. The compiler unrolls `note` and `settle` in the arm,
+// where it knows the row. A constant that is lent is stored where the function starts, and one that an arm copies is
+// stored there alone.
 fn judge_invoke(specifier: u8, table: &[u16], count: usize) -> Judged
     requires { ⌜ (4 * count ≤ length (now table)) × (count ≤ 64) ⌝ }
     ensures { λ r. ⌜ judgedIn r ≡ verdict 0xE9 specifier (itemsFrom (now (table .entry)) 0 count) ⌝ }
 {
     match specifier {
         4 => {
-            let row = HANDOFF_BACK;
-            judge_entries(&row, table, count)
+            let names = HANDOFF_BACK_NAMES;
+            let must = HANDOFF_BACK_MUST;
+            settle(&must, NONE, NONE, table, count, note(&names, table, count))
         }
         13 => {
-            let row = REGISTRATION_NOTIFICATION;
-            judge_entries(&row, table, count)
+            let names = REGISTRATION_NOTIFICATION_NAMES;
+            let must = REGISTRATION_NOTIFICATION_MUST;
+            settle(
+                &must,
+                MIN_KEY,
+                IMSI_KEY,
+                table,
+                count,
+                note(&names, table, count),
+            )
         }
         15 => {
-            let row = LOCATION_REQUEST;
-            judge_entries(&row, table, count)
+            let names = LOCATION_REQUEST_NAMES;
+            let must = LOCATION_REQUEST_MUST;
+            settle(&must, NONE, NONE, table, count, note(&names, table, count))
         }
         32 => {
-            let row = INTER_SYSTEM_PAGE;
-            judge_entries(&row, table, count)
+            let names = INTER_SYSTEM_PAGE_NAMES;
+            let must = INTER_SYSTEM_PAGE_MUST;
+            settle(&must, NONE, NONE, table, count, note(&names, table, count))
         }
         37 => {
-            let row = HANDOFF_BACK2;
-            judge_entries(&row, table, count)
+            let names = HANDOFF_BACK2_NAMES;
+            let must = HANDOFF_BACK2_MUST;
+            settle(&must, NONE, NONE, table, count, note(&names, table, count))
         }
         101 => {
-            let row = INTER_SYSTEM_SMS_PAGE;
-            judge_entries(&row, table, count)
+            let names = INTER_SYSTEM_SMS_PAGE_NAMES;
+            let must = INTER_SYSTEM_SMS_PAGE_MUST;
+            settle(&must, NONE, NONE, table, count, note(&names, table, count))
         }
         _ => Judged::NoRow,
     }
@@ -158,12 +230,36 @@ fn judge_result(specifier: u8, table: &[u16], count: usize) -> Judged
     ensures { λ r. ⌜ judgedIn r ≡ verdict 0xEA specifier (itemsFrom (now (table .entry)) 0 count) ⌝ }
 {
     match specifier {
-        4 => judge_entries(&HANDOFF_BACK_RESULT, table, count),
-        13 => judge_entries(&REGISTRATION_NOTIFICATION_RESULT, table, count),
-        14 => judge_entries(&REGISTRATION_CANCELLATION_RESULT, table, count),
-        26 => judge_entries(&FLASH_REQUEST_RESULT, table, count),
-        64 => judge_entries(&ANALYZED_INFORMATION_RESULT, table, count),
-        101 => judge_entries(&INTER_SYSTEM_SMS_PAGE_RESULT, table, count),
+        4 => {
+            let names = HANDOFF_BACK_RESULT_NAMES;
+            let must = HANDOFF_BACK_RESULT_MUST;
+            settle(&must, NONE, NONE, table, count, note(&names, table, count))
+        }
+        13 => {
+            let names = REGISTRATION_NOTIFICATION_RESULT_NAMES;
+            let must = REGISTRATION_NOTIFICATION_RESULT_MUST;
+            settle(&must, NONE, NONE, table, count, note(&names, table, count))
+        }
+        14 => {
+            let names = REGISTRATION_CANCELLATION_RESULT_NAMES;
+            let must = REGISTRATION_CANCELLATION_RESULT_MUST;
+            settle(&must, NONE, NONE, table, count, note(&names, table, count))
+        }
+        26 => {
+            let names = FLASH_REQUEST_RESULT_NAMES;
+            let must = FLASH_REQUEST_RESULT_MUST;
+            settle(&must, NONE, NONE, table, count, note(&names, table, count))
+        }
+        64 => {
+            let names = ANALYZED_INFORMATION_RESULT_NAMES;
+            let must = ANALYZED_INFORMATION_RESULT_MUST;
+            settle(&must, NONE, NONE, table, count, note(&names, table, count))
+        }
+        101 => {
+            let names = INTER_SYSTEM_SMS_PAGE_RESULT_NAMES;
+            let must = INTER_SYSTEM_SMS_PAGE_RESULT_MUST;
+            settle(&must, NONE, NONE, table, count, note(&names, table, count))
+        }
         _ => Judged::NoRow,
     }
 }

@@ -7,7 +7,7 @@ ghost use Prim.Native.Nat.{_+_, _*_, _≤_};
 ghost use lib.ListN.{length};
 ghost use lib.Seq.{sets};
 ghost use Rattle.component.specs.Layout.{parameters};
-ghost use Rattle.operation.specs.Sheet.{Walked, copied};
+ghost use Rattle.operation.specs.inner.Sheet.{Walked, copied};
 
 // The four numbers of an entry.
 fn show(sheet: &mut [u16], entry: usize, number: u16, form: u16, start: usize, size: usize)

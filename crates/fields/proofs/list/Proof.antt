@@ -7,10 +7,10 @@ use Rattle.fields.proofs.list.Statement.{statement}
 use Rattle.fields.proofs.list.Tie as tie
 
 abbrev Inv-loop : tie.InvT-loop
-Inv-loop from to component₀ table₀ piece₀ text₀ run₀ turns₀ t11 component table piece text run turns = (length component ≡ length component₀) × (length table ≡ length table₀)
+Inv-loop from to component₀ table₀ piece₀ text₀ run₀ turns₀ component table piece text run turns = (length component ≡ length component₀) × (length table ≡ length table₀)
 
 abbrev μ-loop : tie.MeasureT-loop
-μ-loop from to component₀ table₀ piece₀ text₀ run₀ turns₀ t11 component table piece text run turns = turns
+μ-loop from to component₀ table₀ piece₀ text₀ run₀ turns₀ component table piece text run turns = turns
 
 slice-aggregate-piece : tie.Need-slice-aggregate-piece Inv-loop μ-loop
 slice-aggregate-piece c = search needs
@@ -36,17 +36,8 @@ loop-less c = search needs
 loop-again : tie.Need-loop-again Inv-loop μ-loop
 loop-again c = search needs
 
-front-requires : tie.Need-front-requires Inv-loop μ-loop
-front-requires c κs = search needs
-
-write-all-requires : tie.Need-write-all-requires Inv-loop μ-loop
-write-all-requires c κs = search needs
-
-slice-aggregate-write-all : tie.Need-slice-aggregate-write-all Inv-loop μ-loop
-slice-aggregate-write-all c = search needs
-
-write-all-requires-2 : tie.Need-write-all-requires-2 Inv-loop μ-loop
-write-all-requires-2 c κs = search needs
+finish-requires : tie.Need-finish-requires Inv-loop μ-loop
+finish-requires c κs = search needs
 
 same-length : tie.Need-same-length Inv-loop μ-loop
 same-length c = search needs
@@ -56,15 +47,6 @@ same-length-2 c = search needs
 
 returns : tie.Need-returns Inv-loop μ-loop
 returns c = search needs
-
-same-length-3 : tie.Need-same-length-3 Inv-loop μ-loop
-same-length-3 c = search needs
-
-same-length-4 : tie.Need-same-length-4 Inv-loop μ-loop
-same-length-4 c = search needs
-
-returns-2 : tie.Need-returns-2 Inv-loop μ-loop
-returns-2 c = search needs
 
 pub list-spec : {M : Type 1} → statement M
 list-spec =
@@ -80,13 +62,7 @@ list-spec =
     sub-turns
     loop-less
     loop-again
-    front-requires
-    write-all-requires
-    slice-aggregate-write-all
-    write-all-requires-2
+    finish-requires
     same-length
     same-length-2
-    returns
-    same-length-3
-    same-length-4
-    returns-2)
+    returns)

@@ -3,7 +3,7 @@
 use borrow.Author.Needs.{needs}
 use mathlib.Core.Path.{refl}
 use native.Mathlib.Omega.{arith}
-use Rattle.operation.specs.Finishing.{detailOf, finished, tableFinished}
+use Rattle.operation.specs.inner.Finishing.{detailOf, finished, tableFinished}
 use Rattle.operation.proofs.finish.Statement.{statement}
 use Rattle.operation.proofs.finish.Tie as tie
 

@@ -3,7 +3,7 @@
 use borrow.Author.Needs.{needs}
 use mathlib.Core.Path.{sym, ap, _∙_}
 use native.Mathlib.Omega.{arith}
-use Rattle.operation.specs.Coded.{judgedIn}
+use Rattle.operation.specs.inner.Coded.{judgedIn}
 use Rattle.operation.proofs.Writer.{many, cramped, judged, entry-below}
 use Rattle.operation.proofs.judge_table.Statement.{statement}
 use Rattle.operation.proofs.judge_table.Tie as tie

@@ -6,7 +6,7 @@ use mathlib.Core.Path.{_≡_}
 use mathlib.Core.List.{List}
 use lib.ListN.{getD}
 use native.Mathlib.Omega.{arith}
-use Rattle.operation.specs.Finishing.{placeFrom}
+use Rattle.operation.specs.inner.Finishing.{placeFrom}
 use Rattle.operation.proofs.place_of.Statement.{statement}
 use Rattle.operation.proofs.place_of.Tie as tie
 

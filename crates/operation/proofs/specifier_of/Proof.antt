@@ -1,7 +1,7 @@
 -- `operation::specifier_of` meets its contract.
 -- Assumes nothing.
 use borrow.Author.Tests.{eq-eqb, ne-eqb}
-use Rattle.operation.specs.Finishing.{specifierFor}
+use Rattle.operation.specs.inner.Finishing.{specifierFor}
 use Rattle.operation.proofs.specifier_of.Statement.{statement}
 use Rattle.operation.proofs.specifier_of.Tie as tie
 

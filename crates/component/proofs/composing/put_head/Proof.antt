@@ -2,7 +2,7 @@
 -- Assumes nothing.
 use mathlib.Core.List.{[], _∷_}
 use lib.ListN.{length-set}
-use Rattle.component.specs.Emitting.{headOctets}
+use Rattle.component.specs.inner.Emitting.{headOctets}
 use native.Mathlib.Omega.{arith}
 use Rattle.component.proofs.Composition.{head-room}
 use Rattle.component.proofs.Putting.{stored, then}

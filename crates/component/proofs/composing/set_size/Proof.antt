@@ -3,7 +3,7 @@
 use Prim.Native.Nat.{_*_, _-_, _≤_}
 use mathlib.Core.Path.{_≡_, sym, _∙_}
 use Rattle.component.specs.Composing.{entriesFrom}
-use Rattle.component.specs.Emitting.{sized}
+use Rattle.component.specs.inner.Emitting.{sized}
 use Rattle.component.proofs.Counting.{left, begins, ends, goes-on, stops}
 use borrow.Author.Needs.{needs}
 use native.Mathlib.Omega.{arith}

@@ -1,74 +1,68 @@
--- `operation::first_missing` meets its contract. The invariant: the whole answer is that of the lines that are left; what each line does is one
--- law of `RowWalk`.
+-- `operation::first_missing` meets its contract. The invariant: the whole answer is that of what is left of the list; what each key does is one law of
+-- `Musts`.
 -- Assumes nothing.
 use Prim.Native.Nat.{_-_}
 use mathlib.Core.Path.{_≡_, refl, sym, _∙_}
 use lib.ListN.{length}
 use borrow.Author.Needs.{needs}
 use borrow.Author.Tests.{not-true, not-false}
-use Rattle.operation.specs.Coded.{rowIn}
-use Rattle.operation.specs.Noting.{asked}
-use Rattle.operation.proofs.RowWalk.{rowFrom, line-at, row-over, all-met, met-here, not-asked, lacks}
+use Rattle.operation.specs.inner.Firsts.{lacking}
+use Rattle.operation.proofs.Musts.{lackingFrom, none-left, noted, not-one, other-noted, neither}
 use Rattle.operation.proofs.engine.first_missing.Statement.{statement}
 use Rattle.operation.proofs.engine.first_missing.Tie as tie
 
-abbrev Inv-lines : tie.InvT-lines
-Inv-lines row met at₀ at = asked (rowIn row) met 0 ≡ asked (rowFrom row at) met at
+abbrev Inv-names : tie.InvT-names
+Inv-names must one other seen at₀ at = lacking must one other seen ≡ lackingFrom must one other seen at
 
-abbrev μ-lines : tie.MeasureT-lines
-μ-lines row met at₀ at = length row - at
+abbrev μ-names : tie.MeasureT-names
+μ-names must one other seen at₀ at = length must - at
 
-lines-holds : tie.Need-lines-holds Inv-lines μ-lines
-lines-holds c = refl
+names-holds : tie.Need-names-holds Inv-names μ-names
+names-holds c = refl
 
-add-next : tie.Need-add-next Inv-lines μ-lines
-add-next c = search needs
+names-again : tie.Need-names-again Inv-names μ-names
+names-again c =
+    let a = c .before .before .before .before .before .before .before .before .before .before .before .args in
+    let l = c .before .before .before .before .before .before .before .before .names in
+    l .inv ∙ sym (other-noted (a .must .now) (a .one) (a .other) (a .seen .now) (l .at) (c .before .before .before .before .before .before .before .if1 .left) (c .before .before .before .before .before .wide .ensures .0) (c .before .before .before .before .has .ensures) (not-true _ (c .before .before .before .if2 .taken)) (c .before .before .if3 .left) (c .before .has2 .ensures) (not-false _ (c .if4 .left)))
 
-shared-slice-read-if2 : tie.Need-shared-slice-read-if2 Inv-lines μ-lines
-shared-slice-read-if2 c = search needs
+names-again-2 : tie.Need-names-again-2 Inv-names μ-names
+names-again-2 c =
+    let a = c .before .before .before .before .before .before .before .before .args in
+    let l = c .before .before .before .before .before .names in
+    l .inv ∙ sym (noted (a .must .now) (a .one) (a .other) (a .seen .now) (l .at) (c .before .before .before .before .if1 .left) (c .before .before .wide .ensures .0) (c .before .has .ensures) (not-false _ (c .if2 .left)))
 
-mul-line : tie.Need-mul-line Inv-lines μ-lines
-mul-line c = search needs
+returns : tie.Need-returns Inv-names μ-names
+returns c =
+    let a = c .before .before .before .before .args in
+    let l = c .before .names in
+    none-left (a .must .now) (a .one) (a .other) (a .seen .now) (l .at) (c .if1 .taken) ∙ sym (l .inv)
 
-shared-slice-read-line : tie.Need-shared-slice-read-line Inv-lines μ-lines
-shared-slice-read-line c = search needs
+returns-2 : tie.Need-returns-2 Inv-names μ-names
+returns-2 c =
+    let a = c .before .before .before .before .before .before .before .before .before .before .args in
+    let l = c .before .before .before .before .before .before .before .names in
+    not-one (a .must .now) (a .one) (a .other) (a .seen .now) (l .at) (c .before .before .before .before .before .before .if1 .left) (c .before .before .before .before .wide .ensures .0) (c .before .before .before .has .ensures) (not-true _ (c .before .before .if2 .taken)) (c .before .if3 .taken) ∙ sym (l .inv)
 
-cast-number : tie.Need-cast-number Inv-lines μ-lines
-cast-number c = search needs
-
-lines-less : tie.Need-lines-less Inv-lines μ-lines
-lines-less c = search needs
-
-lines-again : tie.Need-lines-again Inv-lines μ-lines
-lines-again c = c .before .before .before .before .before .lines .inv ∙ sym (not-asked _ _ (line-at _ _ (c .before .before .before .before .if1 .left)) (c .if3 .left))
-
-lines-less-2 : tie.Need-lines-less-2 Inv-lines μ-lines
-lines-less-2 c = search needs
-
-lines-again-2 : tie.Need-lines-again-2 Inv-lines μ-lines
-lines-again-2 c = c .before .before .before .lines .inv ∙ sym (met-here _ _ _ (line-at _ _ (c .before .before .if1 .left)) (not-false _ (c .if2 .left)))
-
-returns : tie.Need-returns Inv-lines μ-lines
-returns c = all-met _ _ (row-over _ _ (c .if1 .taken)) ∙ sym (c .before .lines .inv)
-
-returns-2 : tie.Need-returns-2 Inv-lines μ-lines
-returns-2 c = lacks _ _ (line-at _ _ (c .before .before .before .before .if1 .left)) (not-true _ (c .before .before .if2 .taken)) (c .if3 .taken) ∙ sym (c .before .before .before .before .before .lines .inv)
+returns-3 : tie.Need-returns-3 Inv-names μ-names
+returns-3 c =
+    let a = c .before .before .before .before .before .before .before .before .before .before .before .before .args in
+    let l = c .before .before .before .before .before .before .before .before .before .names in
+    neither (a .must .now) (a .one) (a .other) (a .seen .now) (l .at) (c .before .before .before .before .before .before .before .before .if1 .left) (c .before .before .before .before .before .before .wide .ensures .0) (c .before .before .before .before .before .has .ensures) (not-true _ (c .before .before .before .before .if2 .taken)) (c .before .before .before .if3 .left) (c .before .before .has2 .ensures) (not-true _ (c .before .if4 .taken)) ∙ sym (l .inv)
 
 pub first-missing-spec : {M : Type 1} → statement M
 first-missing-spec =
     tie.close
     (tie.spec
-    Inv-lines
-    μ-lines
-    lines-holds
-    add-next
-    shared-slice-read-if2
-    mul-line
-    shared-slice-read-line
-    cast-number
-    lines-less
-    lines-again
-    lines-less-2
-    lines-again-2
+    Inv-names
+    μ-names
+    names-holds
+    (λ c. search needs) (λ c. search needs) (λ c. search needs) (λ c κs. search needs) (λ c κs. search needs)
+    (λ c. search needs) (λ c. search needs) (λ c κs. search needs) (λ c. search needs) (λ c. search needs)
+    (λ c. search needs)
+    names-again
+    (λ c. search needs)
+    names-again-2
     returns
-    returns-2)
+    returns-2
+    returns-3)

@@ -2,7 +2,7 @@
 -- Assumes nothing.
 use borrow.Author.Needs.{needs}
 use Rattle.operation.specs.Row.{key}
-use Rattle.operation.specs.Coded.{itemAt}
+use Rattle.operation.specs.inner.Coded.{itemAt}
 use Rattle.operation.proofs.engine.key_at.Statement.{statement}
 use Rattle.operation.proofs.engine.key_at.Tie as tie
 

@@ -8,7 +8,7 @@ use Rattle.element.specs.Answer.{Answer, accepted, refused}
 use Rattle.component.specs.declared.Heading as G
 use Rattle.operation.specs.declared.Judged as J
 use Rattle.operation.specs.declared.Judged.the-variants as JV
-use Rattle.operation.specs.Sheet.{copied}
+use Rattle.operation.specs.inner.Sheet.{copied}
 use Rattle.operation.specs.Caller.{Told}
 
 unfoldable pub specifierFor : G.Heading → (given : ℕ) → ℕ

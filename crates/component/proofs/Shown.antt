@@ -1,12 +1,12 @@
--- How a layout shows a component: type, ID octets, specifier, and each parameter by an entry, one of no octets included.
+-- How a layout shows a component: type, ID octets, specifier, and each parameter by an entry, one of no octets
+-- included.
 use Prim.Native.Nat.{ℕ, _+_, _≤_}
 use mathlib.Core.Path.{_≡_}
 use mathlib.Core.List.{List, [], _∷_}
-use lib.ListN.{length, getD, take, drop}
-use lib.Dec.{eqb}
-use Rattle.element.specs.Octets.{Octets, if, between}
+use lib.ListN.{length, take, drop}
+use Rattle.element.specs.Octets.{Octets, between}
 use Rattle.component.specs.Table.{Entry, next}
-use Rattle.component.specs.Layout.{Layout}
+use Rattle.component.specs.Layout.{specifierIn, Layout}
 use Rattle.component.specs.Grammar.{Parameter, Component, parametersOf, kindOf, identifierOf, specifierOf}
 
 -- an entry shows a parameter: its number, its form, and its contents where they stand in the component
@@ -19,10 +19,6 @@ pub record Shows (s : Octets) (e : Entry) (p : Parameter) : Type 0 where
 pub data Pairwise {A B : Type 0} (R : A → B → Type 0) : List A → List B → Type 0 where
   none : Pairwise R [] []
   more : {a : A} {b : B} {xs : List A} {ys : List B} → R a b → Pairwise R xs ys → Pairwise R (a ∷ xs) (b ∷ ys)
-
--- the specifier of a layout: an INVOKE carries it, a RESULT has the one that is handed in
-unfoldable pub specifierIn : Octets → Layout → (given : ℕ) → ℕ
-specifierIn s l given = if (eqb (l .head .kind) 0xE9) (getD s (l .head .operation) 0) given
 
 pub record Outlines (s : Octets) (l : Layout) (c : Component) : Type 0 where
   pub kind : l .head .kind ≡ kindOf c

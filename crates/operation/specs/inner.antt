@@ -1,0 +1,4 @@
+pub mod Coded
+pub mod Firsts
+pub mod Sheet
+pub mod Finishing

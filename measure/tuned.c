@@ -1,0 +1,217 @@
+/*
+ * A reader of one component, tuned by hand for x86-64: one walk decodes the
+ * parameters, notes a bit for each register number that the row names, and
+ * fills a local table, which is copied where all is accepted. What ./bench
+ * holds the proved reader to. Numbers and details are those of the scope
+ * paper, and the packed result is that of plain.c. Numbers of the table are
+ * stored low octet first, as the machine has them.
+ */
+#include <stddef.h>
+#include <stdint.h>
+#include <string.h>
+
+#define INVOKE 0xE9
+#define RESULT 0xEA
+
+#define MAX_OCTETS 4096
+#define MAX_PARAMETERS 64
+#define MIN_NUMBERS 256
+
+#define DIGITS 4
+
+/* A row: a bit for each number that it names, 64 to a word; those that must
+ * occur, in order, of a choice the first; and the choice, 0 where there is none. */
+struct row {
+    uint64_t names[4];
+    uint8_t must_count;
+    uint8_t must[5];
+    uint8_t one, other;
+};
+
+#define BIT(number) ((uint64_t)1 << (number) % 64)
+
+static const struct row rows[] = {
+    { { BIT(5) | BIT(6) | BIT(8) | BIT(2) | BIT(3) | BIT(1) }, 5, { 5, 6, 8, 2, 3 }, 0, 0 },
+    { { BIT(5) }, 1, { 5 }, 0, 0 },
+    { { BIT(9) | BIT(8) | BIT(21) | BIT(17) | BIT(22) | BIT(32), BIT(123), 0, BIT(242) },
+      5, { 9, 8, 21, 17, 22 }, 8, 242 },
+    { { BIT(22) }, 1, { 22 }, 0, 0 },
+    { { 0 }, 0, { 0 }, 0, 0 },
+    { { BIT(1) | BIT(4) | BIT(21) | BIT(22) | BIT(32), BIT(123) }, 4, { 1, 4, 21, 22 }, 0, 0 },
+    { { BIT(1) | BIT(9) | BIT(8) | BIT(21) | BIT(22) | BIT(32), 0, 0, BIT(242) }, 3, { 1, 9, 8 }, 0, 0 },
+    { { BIT(1) | BIT(6) | BIT(2), 0, 0, BIT(242) }, 3, { 1, 6, 2 }, 0, 0 },
+    { { BIT(4) }, 0, { 0 }, 0, 0 },
+    { { BIT(8) | BIT(9), BIT(105) | BIT(116), 0, BIT(242) }, 2, { 105, 116 }, 0, 0 },
+    { { 0, BIT(105), BIT(153) }, 0, { 0 }, 0, 0 },
+};
+
+/* One more than the place of its row: 0 where there is none. */
+static const uint8_t invokes[256] = { [4] = 1, [13] = 3, [15] = 6, [32] = 7, [37] = 8, [101] = 10 };
+static const uint8_t results[256] = { [4] = 2, [13] = 4, [14] = 5, [26] = 5, [64] = 9, [101] = 11 };
+
+static uint64_t refusal(unsigned number, size_t detail)
+{
+    return number | (uint64_t)detail << 8;
+}
+
+/* The length field at `at`, which may not pass `end`: the place behind it, 0 where it is wrong. */
+static inline size_t length_at(const uint8_t *octets, size_t at, size_t end, size_t *length)
+{
+    unsigned first;
+
+    if (at >= end)
+        return 0;
+    first = octets[at];
+    if (first < 0x80) {
+        *length = first;
+        return at + 1;
+    }
+    if (first == 0x81 && end - at >= 2 && octets[at + 1] >= 0x80) {
+        *length = octets[at + 1];
+        return at + 2;
+    }
+    if (first == 0x82 && end - at >= 3 && octets[at + 1] != 0) {
+        *length = (size_t)octets[at + 1] << 8 | octets[at + 2];
+        return at + 3;
+    }
+    return 0;
+}
+
+/* The parameter identifier at `at`, below `end`: the place behind it, 0 where it is wrong. */
+static inline size_t identifier_at(const uint8_t *octets, size_t at, size_t end, unsigned *number)
+{
+    unsigned first = octets[at], next;
+
+    if ((first & 0xC0) != 0x80)
+        return 0;
+    *number = first & 0x1F;
+    if (*number != 0x1F)
+        return at + 1;
+    if (end - at < 2)
+        return 0;
+    next = octets[at + 1];
+    if (next < 0x80) {
+        *number = next;
+        return next < 31 ? 0 : at + 2;
+    }
+    if (next == 0x80 || end - at < 3 || octets[at + 2] >= 0x80)
+        return 0;
+    *number = (next & 0x7F) << 7 | octets[at + 2];
+    return at + 3;
+}
+
+/* The element at *at with this identifier: leaves *at at its contents; else a refusal. */
+static inline uint64_t element_at(const uint8_t *octets, size_t *at, size_t end, uint8_t identifier,
+                                  unsigned number, size_t *length)
+{
+    size_t place = *at;
+
+    if (place >= end)
+        return refusal(5, end);
+    if (octets[place] != identifier)
+        return refusal(number, place);
+    *at = length_at(octets, place + 1, end, length);
+    if (*at == 0)
+        return refusal(4, place + 1);
+    return *length > end - *at ? refusal(5, place) : 0;
+}
+
+/* 14: the place of the last entry that is one of the choice. An entry stands
+ * where the one before it ends, the first where the set's contents start. */
+static uint64_t both(const uint64_t *entries, size_t count, const struct row *row, size_t set)
+{
+    while (count-- > 0) {
+        uint32_t identifier = (uint32_t)entries[count];
+
+        if (identifier == row->one || identifier == row->other)
+            break;
+    }
+    return refusal(14, count == 0 ? set : (entries[count - 1] >> 32 & 0xFFFF) + (entries[count - 1] >> 48));
+}
+
+uint64_t tuned_read(const uint8_t *component, size_t octets, uint8_t specifier,
+                    uint16_t *table, size_t numbers)
+{
+    uint64_t entries[MAX_PARAMETERS], seen[4] = { 0 }, wrong, id = 0;
+    size_t at, set, length, i, count = 0, named = 0, again = 0, operation = 0;
+    const struct row *row;
+    unsigned type, which;
+
+    if (numbers < MIN_NUMBERS)
+        return 1;
+    if (octets == 0 || octets > MAX_OCTETS)
+        return 2;
+    type = component[0];
+    if (type != INVOKE && type != RESULT)
+        return 3;
+    at = length_at(component, 1, octets, &length);
+    if (at == 0)
+        return refusal(4, 1);
+    if (length != octets - at)
+        return refusal(5, length > octets - at ? 0 : at + length);
+    set = at;
+    if ((wrong = element_at(component, &at, octets, 0xCF, 6, &length)) != 0)
+        return wrong;
+    if (type == INVOKE ? length > 2 : length != 1)
+        return refusal(6, set);
+    id = length;
+    if (length > 0)
+        id |= (uint64_t)component[at] << 8;
+    if (length > 1)
+        id |= (uint64_t)component[at + 1] << 16;
+    at += length;
+    if (type == INVOKE) {
+        set = at;
+        if ((wrong = element_at(component, &at, octets, 0xD1, 7, &length)) != 0)
+            return wrong;
+        if (length != 2 || component[at] != 9)
+            return refusal(7, set);
+        operation = at + 1;
+        specifier = component[operation];
+        at += 2;
+    }
+    if ((wrong = element_at(component, &at, octets, 0xF2, 8, &length)) != 0)
+        return wrong;
+    if (at + length != octets)
+        return refusal(5, at + length);
+
+    which = type == INVOKE ? invokes[specifier] : results[specifier];
+    row = &rows[which == 0 ? 4 : which - 1];
+    for (set = at; at < octets; count++) {
+        size_t place = at, start;
+        unsigned number, form = component[at] >> 5 & 1;
+
+        if (count == MAX_PARAMETERS)
+            return refusal(10, place);
+        at = identifier_at(component, place, octets, &number);
+        if (at == 0)
+            return refusal(9, place);
+        start = length_at(component, at, octets, &length);
+        if (start == 0)
+            return refusal(4, at);
+        if (length > octets - start)
+            return refusal(5, place);
+        entries[count] = number | form << 16 | (uint64_t)start << 32 | (uint64_t)length << 48;
+        if (number < 256 && form == 0 && row->names[number / 64] & BIT(number)) {
+            named++;
+            if (seen[number / 64] & BIT(number) && number != DIGITS && again == 0)
+                again = place;
+            seen[number / 64] |= BIT(number);
+        }
+        at = start + length;
+    }
+    if (which == 0)
+        return refusal(11, operation);
+    if (again != 0)
+        return refusal(12, again);
+    for (i = 0; i < row->must_count; i++) {
+        unsigned number = row->must[i];
+
+        if (!(seen[number / 64] & BIT(number)) && !(number == row->one && seen[row->other / 64] & BIT(row->other)))
+            return refusal(13, number);
+    }
+    if (row->one != 0 && seen[row->one / 64] & BIT(row->one) && seen[row->other / 64] & BIT(row->other))
+        return both(entries, count, row, set);
+    memcpy(table, entries, 8 * count);
+    return (uint64_t)type << 8 | id << 16 | (uint64_t)specifier << 40 | (uint64_t)count << 48 | (uint64_t)named << 56;
+}
