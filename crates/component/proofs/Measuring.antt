@@ -28,7 +28,7 @@ abbrev pub checked : (kind id : ℕ) → List Parameter → Answer (List Paramet
 checked kind id ps = check (leb (octetsNeeded kind id ps) 4096) 15 (octetsNeeded kind id ps) >> accepted ps
 
 abbrev pub sizesOf : (kind id : ℕ) → List Parameter → Sizes
-sizesOf kind id ps = record { whole = octetsNeeded kind id ps; set = setSize ps }
+sizesOf kind id ps = record { whole = octetsNeeded kind id ps; body = bodySize kind id (setSize ps); set = setSize ps }
 
 told : {A B : Type 0} (t : Bool) (n d : ℕ) (f : A → B) (x : A) → _≡_ {A = Answer B} (check t n d >> accepted (f x)) ((check t n d >> accepted x) >>= λ y. accepted (f y))
 told true n d f x = refl
@@ -70,14 +70,14 @@ module _ (kind : ℕ) (id : D.Id) (count : ℕ) (t : List ℕ) (source : Octets)
           pub by-set : {set : ℕ} → accepted set ≡ sized (entriesFrom 0 count t source) → measuredOf kind (id .count) set ≡ measured kind id count t source
           by-set e = rw (← e) at by-entries
 
-module _ (kind id set : ℕ) {whole : ℕ} (e : whole ≡ elementSize 1 (bodySize kind id set)) where
+module _ (kind id set : ℕ) {whole body : ℕ} (e : whole ≡ elementSize 1 body) (f : body ≡ bodySize kind id set) where
   pub too-long : 4096 < whole → refused 15 whole ≡ measuredOf kind id set
   unfolding measuredOf
-  too-long h = simp (← e, lt-leb whole 4096)
+  too-long h = simp (← f, ← e, lt-leb whole 4096)
 
-  pub measures : whole ≤ 4096 → accepted (record { whole = whole; set = set }) ≡ measuredOf kind id set
+  pub measures : whole ≤ 4096 → accepted (record { whole = whole; body = body; set = set }) ≡ measuredOf kind id set
   unfolding measuredOf
-  measures h = simp (← e, le-leb whole 4096)
+  measures h = simp (← f, ← e, le-leb whole 4096)
 
 -- back from what is accepted
 module _ (kind : ℕ) (id : D.Id) (count : ℕ) (t : List ℕ) (source : Octets) where

@@ -35,23 +35,25 @@ changed {s = s} {out = out} p e = rw e (ap accepted (p .place ∙ zero-add (leng
 
 module _ (kind : ℕ) (id : D.Id) (count : ℕ) (t : List ℕ) (source : Octets) where
   -- what the sizes say of the entries
-  pub record Found (whole set : ℕ) : Type 0 where
+  pub record Found (whole body set : ℕ) : Type 0 where
     pub is : entriesOf kind id count t source ≡ accepted (parametersFrom 0 count t source)
     pub ready : Ready kind id count t source (parametersFrom 0 count t source)
     pub whole-is : whole ≡ octetsNeeded kind (id .count) (parametersFrom 0 count t source)
+    pub body-is : body ≡ bodySize kind (id .count) (setSize (parametersFrom 0 count t source))
     pub set-is : set ≡ setSize (parametersFrom 0 count t source)
 
-  pub found : {whole set : ℕ} → accepted (record { whole = whole; set = set }) ≡ measured kind id count t source → Found whole set
+  pub found : {whole body set : ℕ} → accepted (record { whole = whole; body = body; set = set }) ≡ measured kind id count t source → Found whole body set
   unfolding measured
-  found {whole} {set} e =
+  found {whole} {body} {set} e =
       let (ps, x, y) = taken (entriesOf kind id count t source) (sym e) in
       let r = ready kind id count t source x in
       let l = listed t source 0 count (r .entries) in
-      let z : sizesOf kind (id .count) ps ≡ record { whole = whole; set = set } = cc in
+      let z : sizesOf kind (id .count) ps ≡ record { whole = whole; body = body; set = set } = cc in
       record {
         is = rw (← l) x;
         ready = rw (← l) r;
         whole-is = rw (← l) (sym (ap (λ (s : Sizes). s .whole) z));
+        body-is = rw (← l) (sym (ap (λ (s : Sizes). s .body) z));
         set-is = rw (← l) (sym (ap (λ (s : Sizes). s .set) z));
       }
 
@@ -61,11 +63,11 @@ module _ (kind : ℕ) (id : D.Id) (count : ℕ) (t : List ℕ) (source : Octets)
   refusal specifier out e =
       unchanged out (stopped (entriesOf kind id count t source) (sizesOf kind (id .count)) (λ ps. octetsOf kind id specifier ps (length out)) (sym e))
 
-  module _ {whole set : ℕ} (f : Found whole set) where
+  module _ {whole body set : ℕ} (f : Found whole body set) where
     pub short : whole ≤ 4096
     short = rw (f .whole-is) (f .ready .short)
 
-    pub short-set : set ≤ 4096
+    short-set : set ≤ 4096
     short-set = rw (f .set-is) (composition.short-set kind (id .count) (parametersFrom 0 count t source) (f .ready .short))
 
     module _ (specifier : ℕ) (out : Octets) where
@@ -73,28 +75,27 @@ module _ (kind : ℕ) (id : D.Id) (count : ℕ) (t : List ℕ) (source : Octets)
       unfolding composing octetsOf
       no-room h = unchanged out (simp (f .is, ← f .whole-is, lt-leb whole (length out) h))
 
-      module _ {body : ℕ} (b : body ≡ bodySize kind (id .count) set) where
-        octets : composed (componentOf kind id specifier (parametersFrom 0 count t source))
-            ≡ headOctets kind id specifier body set ++ setOf (parametersFrom 0 count t source)
-        octets = rw (b, f .set-is) (composition.parts kind id specifier (parametersFrom 0 count t source) (f .ready .allowed) (f .ready .short))
+      octets : composed (componentOf kind id specifier (parametersFrom 0 count t source))
+          ≡ headOctets kind id specifier body set ++ setOf (parametersFrom 0 count t source)
+      octets = rw (f .body-is, f .set-is) (composition.parts kind id specifier (parametersFrom 0 count t source) (f .ready .allowed) (f .ready .short))
 
-        lengths : length (headOctets kind id specifier body set) + length (setOf (parametersFrom 0 count t source)) ≡ whole
-        lengths =
-            sym (length-append (headOctets kind id specifier body set) (setOf (parametersFrom 0 count t source))) ∙ ap length (sym octets)
-            ∙ composition.whole kind id specifier (parametersFrom 0 count t source) (f .ready .allowed) (f .ready .short) ∙ sym (f .whole-is)
+      lengths : length (headOctets kind id specifier body set) + length (setOf (parametersFrom 0 count t source)) ≡ whole
+      lengths =
+          sym (length-append (headOctets kind id specifier body set) (setOf (parametersFrom 0 count t source))) ∙ ap length (sym octets)
+          ∙ composition.whole kind id specifier (parametersFrom 0 count t source) (f .ready .allowed) (f .ready .short) ∙ sym (f .whole-is)
 
-        module _ (h : whole ≤ length out) where
-          pub head-ready : (id .count ≤ 2) × (body < 65536) × (set < 65536) × (length (headOctets kind id specifier body set) ≤ length out)
-          head-ready =
-              let s : bodySize kind (id .count) set ≤ 4096 = rw (f .set-is) (composition.short-body kind (id .count) (parametersFrom 0 count t source) (f .ready .short)) in
-              (composition.two-at-most (f .ready .allowed), omega arith, omega (arith, short-set), omega (arith, lengths))
+      module _ (h : whole ≤ length out) where
+        pub head-ready : (id .count ≤ 2) × (body < 65536) × (set < 65536) × (length (headOctets kind id specifier body set) ≤ length out)
+        head-ready =
+            let s : body ≤ 4096 = rw (f .body-is) (composition.short-body kind (id .count) (parametersFrom 0 count t source) (f .ready .short)) in
+            (composition.two-at-most (f .ready .allowed), omega arith, omega (arith, short-set), omega (arith, lengths))
 
-          module _ {next : ℕ} {mid : Octets} (p : Put (headOctets kind id specifier body set) 0 out next mid) where
-            pub set-ready : length mid ≡ length out → (count ≤ 64) × (4 * count ≤ length t) × AllStand count t source
-                × (next + length (setOf (parametersFrom 0 count t source)) ≤ length mid)
-            set-ready e = (f .ready .few, f .ready .room, stand t source count (f .ready .entries), omega (arith, lengths, p .place))
+        module _ {next : ℕ} {mid : Octets} (p : Put (headOctets kind id specifier body set) 0 out next mid) where
+          pub set-ready : length mid ≡ length out → (count ≤ 64) × (4 * count ≤ length t) × AllStand count t source
+              × (next + length (setOf (parametersFrom 0 count t source)) ≤ length mid)
+          set-ready e = (f .ready .few, f .ready .room, stand t source count (f .ready .entries), omega (arith, lengths, p .place))
 
-            pub all-put : {last : ℕ} {after : Octets} → Put (setOf (parametersFrom 0 count t source)) next mid last after →
-                Outcome (composing kind id specifier count t source (length out)) out (accepted last) after
-            unfolding composing octetsOf
-            all-put q = changed (rw (← octets) at (then p q (omega arith))) (simp (f .is, ← f .whole-is, le-leb whole (length out) h))
+          pub all-put : {last : ℕ} {after : Octets} → Put (setOf (parametersFrom 0 count t source)) next mid last after →
+              Outcome (composing kind id specifier count t source (length out)) out (accepted last) after
+          unfolding composing octetsOf
+          all-put q = changed (rw (← octets) at (then p q (omega arith))) (simp (f .is, ← f .whole-is, le-leb whole (length out) h))

@@ -55,11 +55,11 @@ one-count = one-told countIn countFor same-count
 
 -- `measure`
 abbrev measureFor : Answer Sizes → M.Measured
-measureFor (accepted s) = MV.Octets (s .whole) (s .set)
+measureFor (accepted s) = MV.Octets (s .whole) (s .body) (s .set)
 measureFor (refused n d) = MV.Refused n d
 
 same-measure : (x : M.Measured) → measureFor (measureIn x) ≡ x
-same-measure (MV.Octets w s) = refl
+same-measure (MV.Octets w b s) = refl
 same-measure (MV.Refused n d) = refl
 
 pub one-measure : {x y : M.Measured} {told : Answer Sizes} → measureIn x ≡ told → measureIn y ≡ told → x ≡ y

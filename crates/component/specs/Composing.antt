@@ -11,7 +11,7 @@ use Rattle.component.specs.Grammar.{Parameter}
 use Rattle.component.specs.Composed.{composed}
 use Rattle.component.specs.Part.{fits}
 use Rattle.component.specs.Table.{entryOf, componentOf}
-use Rattle.component.specs.Needed.{setSize, octetsNeeded}
+use Rattle.component.specs.Needed.{setSize, bodySize, octetsNeeded}
 
 unfoldable pub entryStands : (table : List ℕ) (source : Octets) (i : ℕ) → Bool
 entryStands t source i =
@@ -42,12 +42,13 @@ entriesOf kind id count table source = do
 
 pub record Sizes : Type 0 where
   pub whole : ℕ
+  pub body : ℕ
   pub set : ℕ
 
 unfoldable pub measured : (kind : ℕ) (id : D.Id) (count : ℕ) (table : List ℕ) (source : Octets) → Answer Sizes
 measured kind id count table source = do
   ps ← entriesOf kind id count table source
-  accepted (record { whole = octetsNeeded kind (id .count) ps; set = setSize ps })
+  accepted (record { whole = octetsNeeded kind (id .count) ps; body = bodySize kind (id .count) (setSize ps); set = setSize ps })
 
 -- the octets of those parameters, where the output has room for them
 unfoldable pub octetsOf : (kind : ℕ) (id : D.Id) (specifier : ℕ) → List Parameter → (room : ℕ) → Answer Octets

@@ -34,5 +34,5 @@ headingIn (HV.Found heading) = accepted heading
 headingIn (HV.Refused n d) = refused n d
 
 abbrev pub measureIn : M.Measured → Answer Sizes
-measureIn (MV.Octets whole set) = accepted (record { whole = whole; set = set })
+measureIn (MV.Octets whole body set) = accepted (record { whole = whole; body = body; set = set })
 measureIn (MV.Refused n d) = refused n d

@@ -2,7 +2,6 @@
 use super::Count;
 use super::Id;
 use super::Measured;
-use super::part_fits;
 use element::Field;
 ghost use mathlib.Core.Path.{_≡_};
 ghost use mathlib.Core.List.{[], _∷_};
@@ -95,10 +94,10 @@ fn element_size(head: usize, body: usize) -> usize
 
 // The contents of E9 or EA.
 fn body_size(kind: u8, octets: u8, set: usize) -> usize
-    requires { ⌜ set ≤ 4194688 ⌝ }
+    requires { ⌜ (octets ≤ 2) × (set ≤ 4194688) ⌝ }
     ensures { λ r. ⌜ (r ≡ bodySize kind octets set) × (r ≤ 4200000) ⌝ }
 {
-    let elements = element_size(1, octets as usize) + element_size(1, set);
+    let elements = 2 + (octets as usize) + element_size(1, set);
     if kind == 0xE9 {
         return elements + 4;
     }
@@ -107,17 +106,18 @@ fn body_size(kind: u8, octets: u8, set: usize) -> usize
 
 // The whole component, where its parameters take `set` octets: 15 where it is longer than 4,096.
 fn whole_size(kind: u8, octets: u8, set: usize) -> Measured
-    requires { ⌜ set ≤ 4194688 ⌝ }
+    requires { ⌜ (octets ≤ 2) × (set ≤ 4194688) ⌝ }
     ensures { λ r. ⌜ measureIn r ≡ measuredOf kind octets set ⌝ }
 {
-    let whole = element_size(1, body_size(kind, octets, set));
+    let body = body_size(kind, octets, set);
+    let whole = element_size(1, body);
     if 4096 < whole {
         return Measured::Refused {
             number: 15,
             detail: whole as u32,
         };
     }
-    Measured::Octets { whole, set }
+    Measured::Octets { whole, body, set }
 }
 
 // Whether an entry is one of a parameter whose contents stand in the source.
@@ -131,7 +131,7 @@ fn entry_stands(i: usize, table: &[u16], source: &[u8]) -> bool
     if 1 < table[4 * i + 1] {
         return false;
     }
-    part_fits(source, wide(table[4 * i + 2]), wide(table[4 * i + 3]))
+    wide(table[4 * i + 2]) + wide(table[4 * i + 3]) <= source.len()
 }
 
 // A parameter: most have one octet of identifier and one of length, so that is asked first.
@@ -262,10 +262,10 @@ fn copy_octets(source: &[u8], start: usize, size: usize, out: &mut [u8], at: usi
     requires { ⌜ (start + size ≤ length (now source)) × (at + size ≤ length (now out)) ⌝ }
     ensures { λ r. ⌜ Put (take size (drop start (now (source .entry)))) at (now (out .entry)) r (now (out .exit)) ⌝ }
 {
-    if size < 2 {
-        return copy_each(source, start, size, out, at);
-    }
     if size < 4 {
+        if size < 2 {
+            return copy_each(source, start, size, out, at);
+        }
         return copy_ends(source, start, size, out, at, 2);
     }
     if size < 8 {
@@ -383,15 +383,13 @@ pub fn compose(
         × (now (out .exit) ≡ outputAfter (now (out .entry)) (composing kind id specifier count (now (table .entry)) (now (source .entry)) (length (now (out .entry))))) ⌝ }
 {
     match measure(kind, id, count, table, source) {
-        Measured::Octets { whole, set } => {
+        Measured::Octets { whole, body, set } => {
             if out.len() < whole {
                 return Count::Refused {
                     number: 17,
                     detail: whole as u32,
                 };
             }
-            let octets = id.count;
-            let body = body_size(kind, octets, set);
             let parameters = put_head(kind, id, specifier, body, set, out);
             return Count::Of(put_parameters(count, table, source, out, parameters));
         }

@@ -54,8 +54,15 @@ pub enum Count {
     Refused { number: u8, detail: u32 },
 }
 
-// What a component takes: its octets, and those of its parameters.
+// What a component takes: its octets, those of the contents of E9 or EA, and those of its parameters.
 pub enum Measured {
-    Octets { whole: usize, set: usize },
-    Refused { number: u8, detail: u32 },
+    Octets {
+        whole: usize,
+        body: usize,
+        set: usize,
+    },
+    Refused {
+        number: u8,
+        detail: u32,
+    },
 }

@@ -229,7 +229,11 @@ pub fn weigh(kind: u8, id: Id, specifier: u8, count: usize, table: &[u16], sourc
     ensures { λ r. ⌜ countIn r ≡ weighing kind id specifier count (now (table .entry)) (now (source .entry)) ⌝ }
 {
     match component::measure(kind, id, count, table, source) {
-        Measured::Octets { whole, set: _ } => match judge_table(kind, specifier, count, table) {
+        Measured::Octets {
+            whole,
+            body: _,
+            set: _,
+        } => match judge_table(kind, specifier, count, table) {
             Count::Of(_) => Count::Of(whole),
             Count::Refused { number, detail } => Count::Refused { number, detail },
         },
@@ -263,7 +267,11 @@ pub fn write(
         }
         Count::Refused { number, detail } => {
             match component::measure(kind, id, count, table, source) {
-                Measured::Octets { whole: _, set: _ } => Writing::Refused { number, detail },
+                Measured::Octets {
+                    whole: _,
+                    body: _,
+                    set: _,
+                } => Writing::Refused { number, detail },
                 Measured::Refused { number, detail } => Writing::Refused { number, detail },
             }
         }

@@ -43,7 +43,7 @@ sized a = a >>= λ ps. accepted (setSize ps)
 unfoldable pub measuredOf : (kind id set : ℕ) → Answer Sizes
 measuredOf kind id set = do
   check (leb (elementSize 1 (bodySize kind id set)) 4096) 15 (elementSize 1 (bodySize kind id set))
-  accepted (record { whole = elementSize 1 (bodySize kind id set); set = set })
+  accepted (record { whole = elementSize 1 (bodySize kind id set); body = bodySize kind id set; set = set })
 
 abbrev pub atMost : ℕ → C.Count → Type 0
 atMost n (CV.Of m) = m ≤ n

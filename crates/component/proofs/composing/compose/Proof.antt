@@ -4,13 +4,14 @@ use borrow.Author.Needs.{needs}
 use native.Mathlib.Omega.{arith}
 use mathlib.Core.Path.{sym, ap, _∙_}
 use Rattle.component.specs.Told.{measureIn}
-use Rattle.component.proofs.Outcome.{Found, found, refusal, short, short-set, no-room, head-ready, set-ready, all-put}
+use Rattle.component.proofs.Outcome.{Found, found, refusal, short, no-room, head-ready, set-ready, all-put}
 use Rattle.component.proofs.composing.compose.Statement.{statement}
 use Rattle.component.proofs.composing.compose.Tie as tie
 
 sizes : (c : tie.After-whole) →
     let a = c .before .before .before .before .before .before .args in
-    Found (a .kind) (a .id) (a .count) (a .table .now) (a .source .now) (c .whole .given .0 .0) (c .whole .given .0 .1 .0)
+    let m = c .whole .given .0 in
+    Found (a .kind) (a .id) (a .count) (a .table .now) (a .source .now) (m .0) (m .1 .0) (m .1 .1 .0)
 sizes c = found _ _ _ _ _ (sym (ap measureIn (c .whole .given .1)) ∙ c .before .before .measure .ensures)
 
 measure-requires : tie.Need-measure-requires
@@ -19,27 +20,23 @@ measure-requires c κs = search needs
 enum-known-whole : tie.Need-enum-known-whole
 enum-known-whole c = search needs
 
-cast-t18 : tie.Need-cast-t18
-cast-t18 c = omega (arith, short _ _ _ _ _ (sizes (c .before .before)))
+cast-t17 : tie.Need-cast-t17
+cast-t17 c = omega (arith, short _ _ _ _ _ (sizes (c .before .before)))
 
 returns : tie.Need-returns
 returns c = no-room _ _ _ _ _ (sizes (c .before .before)) _ _ (c .if1 .taken)
 
-body-size-requires : tie.Need-body-size-requires
-body-size-requires c κs = omega (arith, short-set _ _ _ _ _ (sizes (c .before .before)))
-
 put-head-requires : tie.Need-put-head-requires
 put-head-requires c κs =
-    let roomy = c .before .before in
+    let roomy = c .before in
     let sized = roomy .before .before in
-    head-ready _ _ _ _ _ (sizes sized) _ (sized .before .before .before .before .before .before .args .out .now) (c .before .body-size .ensures .0) (roomy .if1 .left)
+    head-ready _ _ _ _ _ (sizes sized) _ (sized .before .before .before .before .before .before .args .out .now) (roomy .if1 .left)
 
 put-parameters-requires : tie.Need-put-parameters-requires
 put-parameters-requires c κs =
     let headed = c .before .before .before in
-    let roomy = headed .before .before .before in
-    set-ready _ _ _ _ _ (sizes (roomy .before .before)) _ _ (headed .before .before .body-size .ensures .0) (roomy .if1 .left)
-    (headed .put-head .ensures) (headed .put-head .kept .1 .1 .1 .1 .1 .0)
+    let roomy = headed .before .before in
+    set-ready _ _ _ _ _ (sizes (roomy .before .before)) _ _ (roomy .if1 .left) (headed .put-head .ensures) (headed .put-head .kept .1 .1 .1 .1 .1 .0)
 
 same-length : tie.Need-same-length
 same-length c = search needs
@@ -47,9 +44,8 @@ same-length c = search needs
 returns-2 : tie.Need-returns-2
 returns-2 c =
     let headed = c .before .before .before .before .before .before in
-    let roomy = headed .before .before .before in
-    all-put _ _ _ _ _ (sizes (roomy .before .before)) _ _ (headed .before .before .body-size .ensures .0) (roomy .if1 .left)
-    (headed .put-head .ensures) (c .before .before .put-parameters .ensures)
+    let roomy = headed .before .before in
+    all-put _ _ _ _ _ (sizes (roomy .before .before)) _ _ (roomy .if1 .left) (headed .put-head .ensures) (c .before .before .put-parameters .ensures)
 
 enum-known-number : tie.Need-enum-known-number
 enum-known-number c = search needs
@@ -63,9 +59,8 @@ compose-spec =
     (tie.spec
     measure-requires
     enum-known-whole
-    cast-t18
+    cast-t17
     returns
-    body-size-requires
     put-head-requires
     put-parameters-requires
     same-length

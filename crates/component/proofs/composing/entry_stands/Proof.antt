@@ -2,7 +2,6 @@
 -- Assumes nothing.
 use borrow.Author.Needs.{needs}
 use Rattle.component.proofs.Sizing.{no-number, no-form, by-place}
-use mathlib.Core.Path.{_∙_}
 use Rattle.component.proofs.composing.entry_stands.Statement.{statement}
 use Rattle.component.proofs.composing.entry_stands.Tie as tie
 
@@ -63,15 +62,11 @@ shared-slice-read-wide-2 c = search needs
 wide-requires-2 : tie.Need-wide-requires-2
 wide-requires-2 c κs = search needs
 
-part-fits-requires : tie.Need-part-fits-requires
-part-fits-requires c κs = search needs
+add-result : tie.Need-add-result
+add-result c = search needs
 
 returns-3 : tie.Need-returns-3
-returns-3 c =
-    let placed = c .before .before .before in
-    let formed = placed .before .before in
-    c .part-fits .ensures
-    ∙ rw (placed .wide .ensures .0, c .before .wide2 .ensures .0) (by-place _ _ _ (formed .before .before .if1 .left) (formed .if2 .left))
+returns-3 c = rw (c .before .before .wide .ensures .0, c .wide2 .ensures .0) (by-place _ _ _ (c .before .before .before .before .before .before .if1 .left) (c .before .before .before .before .if2 .left))
 
 pub entry-stands-spec : {M : Type 1} → statement M
 entry-stands-spec =
@@ -96,5 +91,5 @@ entry-stands-spec =
     mul-wide-4
     shared-slice-read-wide-2
     wide-requires-2
-    part-fits-requires
+    add-result
     returns-3)

@@ -6,6 +6,7 @@ use mathlib.Core.Bool.{true, _||_}
 use mathlib.Core.Logic.{⊎-elim}
 use lib.Dec.{eqb}
 use Rattle.component.specs.Told.{countIn}
+use Rattle.component.proofs.Composition.{kinds, two-at-most}
 use Rattle.component.proofs.Measuring.{invoke-known, result-known, no-kind, no-id, too-many, no-table, no-entry, by-set}
 use Rattle.component.proofs.composing.measure.Statement.{statement}
 use Rattle.component.proofs.composing.measure.Tie as tie
@@ -35,7 +36,11 @@ enum-known-set : tie.Need-enum-known-set
 enum-known-set c = search needs
 
 whole-size-requires : tie.Need-whole-size-requires
-whole-size-requires c κs = rw (c .before .set .given .1) at (c .before .before .before .set-size .ensures .1)
+whole-size-requires c κs =
+    let fit = c .before .before .before .before .before .before in (
+      two-at-most (kinds _ _ (known (fit .before .before)) (sym (fit .before .id-fits .ensures) ∙ fit .if3 .taken)),
+      rw (c .before .set .given .1) at (c .before .before .before .set-size .ensures .1),
+    )
 
 returns-4 : tie.Need-returns-4
 returns-4 c =

@@ -1,8 +1,6 @@
 -- `component::whole_size` meets its contract.
 -- Assumes nothing.
 use borrow.Author.Needs.{needs}
-use mathlib.Core.Path.{ap, _∙_}
-use Rattle.component.specs.Needed.{elementSize}
 use Rattle.component.proofs.Measuring.{too-long, measures}
 use Rattle.component.proofs.composing.whole_size.Statement.{statement}
 use Rattle.component.proofs.composing.whole_size.Tie as tie
@@ -17,10 +15,10 @@ cast-t7 : tie.Need-cast-t7
 cast-t7 c = search needs
 
 returns : tie.Need-returns
-returns c = too-long _ _ _ (c .before .element-size .ensures .0 ∙ ap (elementSize 1) (c .before .before .body-size .ensures .0)) (c .if1 .taken)
+returns c = too-long _ _ _ (c .before .element-size .ensures .0) (c .before .before .body-size .ensures .0) (c .if1 .taken)
 
 returns-2 : tie.Need-returns-2
-returns-2 c = measures _ _ _ (c .before .element-size .ensures .0 ∙ ap (elementSize 1) (c .before .before .body-size .ensures .0)) (c .if1 .left)
+returns-2 c = measures _ _ _ (c .before .element-size .ensures .0) (c .before .before .body-size .ensures .0) (c .if1 .left)
 
 pub whole-size-spec : {M : Type 1} → statement M
 whole-size-spec =
