@@ -15,6 +15,7 @@ setOf (p ∷ ps) = element (identifier (p .number) (p .form)) (p .content) ++ se
 
 unfoldable pub composed : Component → Octets
 composed (Invoke id specifier ps) =
-    element (0xE9 ∷ []) (element (0xCF ∷ []) id ++ element (0xD1 ∷ []) (9 ∷ specifier ∷ []) ++ element (0xF2 ∷ []) (setOf ps))
+    element (0xE9 ∷ [])
+    (element (0xCF ∷ []) id ++ element (0xD1 ∷ []) (9 ∷ specifier ∷ []) ++ element (0xF2 ∷ []) (setOf ps))
 composed (Result id ps) =
     element (0xEA ∷ []) (element (0xCF ∷ []) id ++ element (0xF2 ∷ []) (setOf ps))

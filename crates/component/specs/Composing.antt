@@ -15,7 +15,8 @@ use Rattle.component.specs.Needed.{setSize, bodySize, octetsNeeded}
 
 unfoldable pub entryStands : (table : List ℕ) (source : Octets) (i : ℕ) → Bool
 entryStands t source i =
-    leb (getD t (4 * i) 0) 16383 && (leb (getD t (4 * i + 1) 0) 1 && fits source (getD t (4 * i + 2) 0) (getD t (4 * i + 3) 0))
+    leb (getD t (4 * i) 0) 16383
+    && (leb (getD t (4 * i + 1) 0) 1 && fits source (getD t (4 * i + 2) 0) (getD t (4 * i + 3) 0))
 
 -- `count` of them from entry `i` on: 16 at the first that can't be
 unfoldable pub entriesFrom : (i count : ℕ) (table : List ℕ) (source : Octets) → Answer (List Parameter)
@@ -30,7 +31,8 @@ unfoldable pub idFits : (kind count : ℕ) → Bool
 idFits kind count = if (eqb kind 0xE9) (leb count 2) (eqb count 1)
 
 -- the parameters that are to be written
-unfoldable pub entriesOf : (kind : ℕ) (id : D.Id) (count : ℕ) (table : List ℕ) (source : Octets) → Answer (List Parameter)
+unfoldable pub entriesOf : (kind : ℕ) (id : D.Id) (count : ℕ) (table : List ℕ) (source : Octets) →
+    Answer (List Parameter)
 entriesOf kind id count table source = do
   check (eqb kind 0xE9 || eqb kind 0xEA) 3 0
   check (idFits kind (id .count)) 6 0
@@ -48,7 +50,11 @@ pub record Sizes : Type 0 where
 unfoldable pub measured : (kind : ℕ) (id : D.Id) (count : ℕ) (table : List ℕ) (source : Octets) → Answer Sizes
 measured kind id count table source = do
   ps ← entriesOf kind id count table source
-  accepted (record { whole = octetsNeeded kind (id .count) ps; body = bodySize kind (id .count) (setSize ps); set = setSize ps })
+  accepted (record {
+    whole = octetsNeeded kind (id .count) ps;
+    body = bodySize kind (id .count) (setSize ps);
+    set = setSize ps;
+  })
 
 -- the octets of those parameters, where the output has room for them
 unfoldable pub octetsOf : (kind : ℕ) (id : D.Id) (specifier : ℕ) → List Parameter → (room : ℕ) → Answer Octets
@@ -56,7 +62,8 @@ octetsOf kind id specifier ps room = do
   check (leb (octetsNeeded kind (id .count) ps) room) 17 (octetsNeeded kind (id .count) ps)
   accepted (composed (componentOf kind id specifier ps))
 
-unfoldable pub composing : (kind : ℕ) (id : D.Id) (specifier count : ℕ) (table : List ℕ) (source : Octets) (room : ℕ) → Answer Octets
+unfoldable pub composing : (kind : ℕ) (id : D.Id) (specifier count : ℕ) (table : List ℕ) (source : Octets) (room : ℕ) →
+    Answer Octets
 composing kind id specifier count table source room = do
   ps ← entriesOf kind id count table source
   octetsOf kind id specifier ps room

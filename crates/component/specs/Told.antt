@@ -22,7 +22,8 @@ spanIn (SV.Refused n d) = refused n d
 
 -- a parameter that stands at `at`
 abbrev pub entryIn : (at : ℕ) → P.Parameter → Answer Entry
-entryIn at (PV.Found number form start size) = accepted (record { number = number; form = form; place = at; start = start; size = size })
+entryIn at (PV.Found number form start size) =
+    accepted (record { number = number; form = form; place = at; start = start; size = size })
 entryIn at (PV.Refused n d) = refused n d
 
 abbrev pub countIn : C.Count → Answer ℕ

@@ -12,7 +12,15 @@ ghost use Rattle.element.specs.Identifier.{identifier, identifierSize};
 ghost use Rattle.element.specs.Encoded.{octetsIn};
 ghost use Rattle.component.specs.Composed.{element, setOf};
 ghost use Rattle.component.specs.Needed.{elementSize, bodySize};
-ghost use Rattle.component.specs.Composing.{idFits, entryStands, entriesFrom, measured, composing, written, outputAfter};
+ghost use Rattle.component.specs.Composing.{
+  idFits,
+  entryStands,
+  entriesFrom,
+  measured,
+  composing,
+  written,
+  outputAfter,
+};
 ghost use Rattle.component.specs.Table.{idOctets, parametersFrom};
 ghost use Rattle.component.specs.inner.Emitting.{
   Put,
@@ -379,8 +387,10 @@ pub fn compose(
     source: &[u8],
     out: &mut [u8],
 ) -> Count
-    ensures { λ r. ⌜ (countIn r ≡ written (composing kind id specifier count (now (table .entry)) (now (source .entry)) (length (now (out .entry)))))
-        × (now (out .exit) ≡ outputAfter (now (out .entry)) (composing kind id specifier count (now (table .entry)) (now (source .entry)) (length (now (out .entry))))) ⌝ }
+    ensures { λ r. ⌜ (countIn r ≡
+        written (composing kind id specifier count (now (table .entry)) (now (source .entry)) (length (now (out .entry)))))
+        × (now (out .exit) ≡ outputAfter (now (out .entry))
+        (composing kind id specifier count (now (table .entry)) (now (source .entry)) (length (now (out .entry))))) ⌝ }
 {
     match measure(kind, id, count, table, source) {
         Measured::Octets { whole, body, set } => {

@@ -30,9 +30,9 @@ lines =
 
 pub sample : printed input ≡ headerLine ++ lines
 unfolding lengthAt within numbered identifierAt spanOf contents wanted setAt operation invoke result headFrom headAt
-    parameter parameterAt parameters layoutBehind layoutAt specifierIn key numberOf onLine named repeats occurs lastMark once present single judge
-    countNamed operations find rowOf itemOf countOther shownOf readingAt told fieldAt digits decimal cell row lineOf after lineFor
-    listing fills whole inputFrom inputOf printed
+    parameter parameterAt parameters layoutBehind layoutAt specifierIn key numberOf onLine named repeats occurs lastMark
+    once present single judge countNamed operations find rowOf itemOf countOther shownOf readingAt told fieldAt digits
+    decimal cell row lineOf after lineFor listing fills whole inputFrom inputOf printed
 sample = refl
 
 -- no field; a header of two octets; a specifier field of two octets of which one is there

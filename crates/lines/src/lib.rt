@@ -89,8 +89,8 @@ impl Kept {
     }
 }
 
-// A whole field: what is kept behind it, and where it is a component its line, into a lent text at a position. Where the
-// longest line has no room there, nothing changes.
+// A whole field: what is kept behind it, and where it is a component its line, into a lent text at a position. Where
+// the longest line has no room there, nothing changes.
 pub fn list_field(
     kept: Kept,
     tag: u8,

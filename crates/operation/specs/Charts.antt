@@ -1,5 +1,5 @@
--- The starred charts of the paper in one table; and, that no row is empty, for each row a component that it accepts, and one for each of
--- 11 to 14 that it can refuse with. Each with what is told and what the lent table then holds.
+-- The starred charts of the paper in one table; and, that no row is empty, for each row a component that it accepts, and
+-- one for each of 11 to 14 that it can refuse with. Each with what is told and what the lent table then holds.
 use Prim.Native.Nat.{ℕ}
 use mathlib.Core.List.{List, [], _∷_, _++_}
 use lib.ListN.{length, drop, replicate}
@@ -7,7 +7,7 @@ use Rattle.element.specs.Octets.{Octets}
 use Rattle.element.specs.Answer.{accepted, refused}
 use Rattle.component.specs.Table.{numbers}
 use Rattle.operation.specs.Row.{named}
-use Rattle.operation.specs.Caller.{Told, Read}
+use Rattle.operation.specs.Caller.{Told, Read, read as answered}
 use Rattle.operation.specs.Model.{reader}
 
 pub record Chart : Type 0 where
@@ -22,15 +22,22 @@ zeros = replicate 256 0
 -- told of a component with the ID octet 05
 abbrev said : (kind specifier all named other : ℕ) → Told
 said kind specifier all named other =
-    record { kind = kind; id = record { count = 1; first = 5; second = 0 }; specifier = specifier; all = all; named = named; other = other }
+    record {
+      kind = kind;
+      id = record { count = 1; first = 5; second = 0 };
+      specifier = specifier;
+      all = all;
+      named = named;
+      other = other;
+    }
 
 -- accepted, with these numbers in front of the table
 abbrev takes : (specifier : ℕ) → Octets → Told → (numbers : List ℕ) → Chart
 takes specifier s x ns =
-    record { octets = s; specifier = specifier; read = record { answer = accepted x; table = ns ++ drop (length ns) zeros } }
+    record { octets = s; specifier = specifier; read = answered (accepted x) (ns ++ drop (length ns) zeros) }
 
 abbrev refuses : (specifier : ℕ) → Octets → (number detail : ℕ) → Chart
-refuses specifier s n d = record { octets = s; specifier = specifier; read = record { answer = refused n d; table = zeros } }
+refuses specifier s n d = record { octets = s; specifier = specifier; read = answered (refused n d) zeros }
 
 abbrev pub reads : Chart → Read
 reads c = reader (c .octets) (c .specifier) zeros

@@ -10,7 +10,8 @@ use Rattle.operation.specs.Judge.{judge}
 use Rattle.operation.specs.Finding.{rowOf}
 use Rattle.operation.specs.Items.{itemsOf}
 
-unfoldable pub writing : (kind : ℕ) (id : D.Id) (specifier count : ℕ) (table : List ℕ) (source : Octets) (room : ℕ) → Answer Octets
+unfoldable pub writing : (kind : ℕ) (id : D.Id) (specifier count : ℕ) (table : List ℕ) (source : Octets) (room : ℕ) →
+    Answer Octets
 writing kind id specifier count table source room = do
   ps ← entriesOf kind id count table source
   row ← rowOf kind specifier 0

@@ -115,8 +115,8 @@ fn finish(
     sheet: &[u16],
     table: &mut [u16],
 ) -> Reading
-    requires { ⌜ (count ≤ 64) × (256 ≤ length (now sheet)) × (256 ≤ length (now table)) × (heading .operation ≤ 4096) × (heading .set ≤ 4096)
-        × Pointing count judged ⌝ }
+    requires { ⌜ (count ≤ 64) × (256 ≤ length (now sheet)) × (256 ≤ length (now table))
+        × (heading .operation ≤ 4096) × (heading .set ≤ 4096) × Pointing count judged ⌝ }
     ensures { λ r. ⌜ (answerIn r ≡ finished heading specifier count (now (sheet .entry)) (judgedIn judged))
         × (now (table .exit) ≡ tableFinished count (now (sheet .entry)) (now (table .entry)) (judgedIn judged)) ⌝ }
 {
@@ -256,7 +256,8 @@ pub fn write(
     ensures { λ r. ⌜ (writtenIn r ≡
         writer (order kind id specifier count (now (table .entry)) (now (source .entry))) (now (out .entry)) .answer)
         × (now (out .exit) ≡
-        writer (order kind id specifier count (now (table .entry)) (now (source .entry))) (now (out .entry)) .output) ⌝ }
+        writer (order kind id specifier count (now (table .entry)) (now (source .entry)))
+        (now (out .entry)) .output) ⌝ }
 {
     match judge_table(kind, specifier, count, table) {
         Count::Of(_) => {

@@ -1,4 +1,4 @@
--- What the private functions of the composing part say: the octets that each puts down, and the octets that each counts.
+-- What the private functions of the composing part say: the octets that each puts down, and those that each counts.
 use Prim.Native.Nat.{ℕ, _+_, _<_, _≤_}
 use mathlib.Core.Path.{_≡_}
 use mathlib.Core.Bool.{true}
@@ -29,7 +29,8 @@ operationOctets kind specifier = if (eqb kind 0xE9) (0xD1 ∷ 2 ∷ 9 ∷ specif
 -- all that stands before the parameters, where the contents of E9 or EA take `body` octets and the parameters `set`
 unfoldable pub headOctets : (kind : ℕ) (id : D.Id) (specifier body set : ℕ) → Octets
 headOctets kind id specifier body set =
-    (kind ∷ []) ++ shortest body ++ element (0xCF ∷ []) (idOctets id) ++ operationOctets kind specifier ++ (0xF2 ∷ []) ++ shortest set
+    (kind ∷ []) ++ shortest body ++ element (0xCF ∷ []) (idOctets id) ++ operationOctets kind specifier
+    ++ (0xF2 ∷ []) ++ shortest set
 
 -- ---- the entries of a table, where all of them stand
 abbrev pub AllStand : (count : ℕ) (table : List ℕ) (source : Octets) → Type 0

@@ -32,7 +32,14 @@ detailOf h sheet n d = if (eqb n 11) (h .operation) (if (eqb n 13) d (placeFrom 
 
 unfoldable pub finished : G.Heading → (specifier count : ℕ) (sheet : List ℕ) → Answer ℕ → Answer Told
 finished h specifier count sheet (accepted named) =
-    accepted (record { kind = h .kind; id = h .id; specifier = specifier; all = count; named = named; other = count - named })
+    accepted (record {
+      kind = h .kind;
+      id = h .id;
+      specifier = specifier;
+      all = count;
+      named = named;
+      other = count - named;
+    })
 finished h specifier count sheet (refused n d) = refused n (detailOf h sheet n d)
 
 unfoldable pub tableFinished : (count : ℕ) (sheet t : List ℕ) → Answer ℕ → List ℕ
