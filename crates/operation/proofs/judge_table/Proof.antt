@@ -11,37 +11,13 @@ use Rattle.operation.proofs.judge_table.Tie as tie
 returns : tie.Need-returns
 returns c = many _ _ _ _ (c .if1 .taken)
 
-mul-if2 : tie.Need-mul-if2
-mul-if2 c = search needs
-
 returns-2 : tie.Need-returns-2
 returns-2 c = cramped _ _ _ _ (c .before .if1 .left) (c .if2 .taken)
-
-judge-operation-requires : tie.Need-judge-operation-requires
-judge-operation-requires c κs = search needs
-
-enum-known-named : tie.Need-enum-known-named
-enum-known-named c = search needs
-
-enum-told : tie.Need-enum-told
-enum-told c = search needs
-
-enum-known-entry : tie.Need-enum-known-entry
-enum-known-entry c = search needs
 
 cast-t14 : tie.Need-cast-t14
 cast-t14 c =
     let a = c .before .before .before .before .before .before .before .args in
     omega (arith, entry-below (a .kind) (a .specifier) (a .count) (a .table .now) (sym (ap judgedIn (c .before .entry .given .1)) ∙ c .before .before .before .judge-operation .ensures) (omega arith) (omega arith))
-
-enum-known-number : tie.Need-enum-known-number
-enum-known-number c = search needs
-
-cast-t15 : tie.Need-cast-t15
-cast-t15 c = search needs
-
-enum-known-entry-2 : tie.Need-enum-known-entry-2
-enum-known-entry-2 c = search needs
 
 cast-t16 : tie.Need-cast-t16
 cast-t16 c =
@@ -68,16 +44,11 @@ judge-table-spec =
     tie.close
     (tie.spec
     returns
-    mul-if2
+    (λ c. search needs)
     returns-2
-    judge-operation-requires
-    enum-known-named
-    enum-told
-    enum-known-entry
+    (λ c κs. search needs) (λ c. search needs) (λ c. search needs) (λ c. search needs)
     cast-t14
-    enum-known-number
-    cast-t15
-    enum-known-entry-2
+    (λ c. search needs) (λ c. search needs) (λ c. search needs)
     cast-t16
     returns-3
     returns-4

@@ -7,24 +7,6 @@ use Rattle.operation.proofs.Writer.{weighs, weight-refused, no-weight}
 use Rattle.operation.proofs.weigh.Statement.{statement}
 use Rattle.operation.proofs.weigh.Tie as tie
 
-measure-requires : tie.Need-measure-requires
-measure-requires c κs = search needs
-
-enum-known-whole : tie.Need-enum-known-whole
-enum-known-whole c = search needs
-
-judge-table-requires : tie.Need-judge-table-requires
-judge-table-requires c κs = search needs
-
-enum-told : tie.Need-enum-told
-enum-told c = search needs
-
-enum-known-number : tie.Need-enum-known-number
-enum-known-number c = search needs
-
-enum-known-number-2 : tie.Need-enum-known-number-2
-enum-known-number-2 c = search needs
-
 returns : tie.Need-returns
 returns c = weighs _ _ _ _ _ _ (sym (ap measureIn (c .before .before .before .before .whole .given .1)) ∙ c .before .before .before .before .before .before .measure .ensures) (sym (ap countIn (c .enum-told .given .1)) ∙ c .before .before .judge-table .ensures)
 
@@ -38,12 +20,8 @@ pub weigh-spec : {M : Type 1} → statement M
 weigh-spec =
     tie.close
     (tie.spec
-    measure-requires
-    enum-known-whole
-    judge-table-requires
-    enum-told
-    enum-known-number
-    enum-known-number-2
+    (λ c κs. search needs) (λ c. search needs) (λ c κs. search needs) (λ c. search needs) (λ c. search needs)
+    (λ c. search needs)
     returns
     returns-2
     returns-3)

@@ -14,12 +14,6 @@ sizes : (c : tie.After-whole) →
     Found (a .kind) (a .id) (a .count) (a .table .now) (a .source .now) (m .0) (m .1 .0) (m .1 .1 .0)
 sizes c = found _ _ _ _ _ (sym (ap measureIn (c .whole .given .1)) ∙ c .before .before .measure .ensures)
 
-measure-requires : tie.Need-measure-requires
-measure-requires c κs = search needs
-
-enum-known-whole : tie.Need-enum-known-whole
-enum-known-whole c = search needs
-
 cast-t17 : tie.Need-cast-t17
 cast-t17 c = omega (arith, short _ _ _ _ _ (sizes (c .before .before)))
 
@@ -38,17 +32,11 @@ put-parameters-requires c κs =
     let roomy = headed .before .before in
     set-ready _ _ _ _ _ (sizes (roomy .before .before)) _ _ (roomy .if1 .left) (headed .put-head .ensures) (headed .put-head .kept .1 .1 .1 .1 .1 .0)
 
-same-length : tie.Need-same-length
-same-length c = search needs
-
 returns-2 : tie.Need-returns-2
 returns-2 c =
     let headed = c .before .before .before .before .before .before in
     let roomy = headed .before .before in
     all-put _ _ _ _ _ (sizes (roomy .before .before)) _ _ (roomy .if1 .left) (headed .put-head .ensures) (c .before .before .put-parameters .ensures)
-
-enum-known-number : tie.Need-enum-known-number
-enum-known-number c = search needs
 
 returns-3 : tie.Need-returns-3
 returns-3 c = refusal _ _ _ _ _ _ _ (sym (ap measureIn (c .before .number .given .1)) ∙ c .before .before .before .measure .ensures)
@@ -57,13 +45,12 @@ pub compose-spec : {M : Type 1} → statement M
 compose-spec =
     tie.close
     (tie.spec
-    measure-requires
-    enum-known-whole
+    (λ c κs. search needs) (λ c. search needs)
     cast-t17
     returns
     put-head-requires
     put-parameters-requires
-    same-length
+    (λ c. search needs)
     returns-2
-    enum-known-number
+    (λ c. search needs)
     returns-3)

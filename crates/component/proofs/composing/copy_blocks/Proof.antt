@@ -21,24 +21,6 @@ abbrev μ-blocks2 : tie.MeasureT-blocks2
 blocks2-holds : tie.Need-blocks2-holds Inv-blocks2 μ-blocks2
 blocks2-holds c = (search needs, search needs, sym (put-none _ _))
 
-sub-blocks2 : tie.Need-sub-blocks2 Inv-blocks2 μ-blocks2
-sub-blocks2 c = search needs
-
-add-copy-block : tie.Need-add-copy-block Inv-blocks2 μ-blocks2
-add-copy-block c = search needs
-
-add-copy-block-2 : tie.Need-add-copy-block-2 Inv-blocks2 μ-blocks2
-add-copy-block-2 c = search needs
-
-copy-block-requires : tie.Need-copy-block-requires Inv-blocks2 μ-blocks2
-copy-block-requires c κs = search needs
-
-add-i : tie.Need-add-i Inv-blocks2 μ-blocks2
-add-i c = search needs
-
-blocks2-less : tie.Need-blocks2-less Inv-blocks2 μ-blocks2
-blocks2-less c = search needs
-
 blocks2-again : tie.Need-blocks2-again Inv-blocks2 μ-blocks2
 blocks2-again c =
     let turn = c .before .before .before .before .before in
@@ -48,21 +30,6 @@ blocks2-again c =
       omega arith,
       further (a .source .now) (a .start) i 16 (i + 16) refl (so-far (a .source .now) (a .start) i (omega arith) (turn .blocks2 .inv .2)) (c .before .before .copy-block .ensures) (omega arith) .octets,
     )
-
-add-copy-ends : tie.Need-add-copy-ends Inv-blocks2 μ-blocks2
-add-copy-ends c = search needs
-
-sub-copy-ends : tie.Need-sub-copy-ends Inv-blocks2 μ-blocks2
-sub-copy-ends c = search needs
-
-add-copy-ends-2 : tie.Need-add-copy-ends-2 Inv-blocks2 μ-blocks2
-add-copy-ends-2 c = search needs
-
-copy-ends-requires : tie.Need-copy-ends-requires Inv-blocks2 μ-blocks2
-copy-ends-requires c κs = search needs
-
-same-length : tie.Need-same-length Inv-blocks2 μ-blocks2
-same-length c = search needs
 
 returns : tie.Need-returns Inv-blocks2 μ-blocks2
 returns c =
@@ -78,16 +45,8 @@ copy-blocks-spec =
     Inv-blocks2
     μ-blocks2
     blocks2-holds
-    sub-blocks2
-    add-copy-block
-    add-copy-block-2
-    copy-block-requires
-    add-i
-    blocks2-less
+    (λ c. search needs) (λ c. search needs) (λ c. search needs) (λ c κs. search needs) (λ c. search needs)
+    (λ c. search needs)
     blocks2-again
-    add-copy-ends
-    sub-copy-ends
-    add-copy-ends-2
-    copy-ends-requires
-    same-length
+    (λ c. search needs) (λ c. search needs) (λ c. search needs) (λ c κs. search needs) (λ c. search needs)
     returns)

@@ -18,32 +18,8 @@ abbrev μ-octets : tie.MeasureT-octets
 octets-holds : tie.Need-octets-holds Inv-octets μ-octets
 octets-holds c = (search needs, search needs, none-copied _ _ _ _)
 
-add-out : tie.Need-add-out Inv-octets μ-octets
-add-out c = search needs
-
-shared-slice-read-out : tie.Need-shared-slice-read-out Inv-octets μ-octets
-shared-slice-read-out c = search needs
-
-add-out-2 : tie.Need-add-out-2 Inv-octets μ-octets
-add-out-2 c = search needs
-
-slice-write-out : tie.Need-slice-write-out Inv-octets μ-octets
-slice-write-out c = search needs
-
-add-i : tie.Need-add-i Inv-octets μ-octets
-add-i c = search needs
-
-octets-less : tie.Need-octets-less Inv-octets μ-octets
-octets-less c = search needs
-
 octets-again : tie.Need-octets-again Inv-octets μ-octets
 octets-again c = (search needs, simp length-set (omega arith), more-copied _ _ _ _ _ (omega arith) (omega arith) (c .before .before .octets .inv .2))
-
-add-result : tie.Need-add-result Inv-octets μ-octets
-add-result c = search needs
-
-same-length : tie.Need-same-length Inv-octets μ-octets
-same-length c = search needs
 
 returns : tie.Need-returns Inv-octets μ-octets
 returns c = let e : c .before .octets .i ≡ c .before .before .args .size = omega arith in all-copied _ _ _ _ _ (omega arith) (rw e at (c .before .octets .inv .2))
@@ -55,13 +31,8 @@ copy-each-spec =
     Inv-octets
     μ-octets
     octets-holds
-    add-out
-    shared-slice-read-out
-    add-out-2
-    slice-write-out
-    add-i
-    octets-less
+    (λ c. search needs) (λ c. search needs) (λ c. search needs) (λ c. search needs) (λ c. search needs)
+    (λ c. search needs)
     octets-again
-    add-result
-    same-length
+    (λ c. search needs) (λ c. search needs)
     returns)

@@ -7,9 +7,6 @@ use native.Mathlib.Omega.{arith}
 use Rattle.component.proofs.composing.element_size.Statement.{statement}
 use Rattle.component.proofs.composing.element_size.Tie as tie
 
-length-size-requires : tie.Need-length-size-requires
-length-size-requires c κs = search needs
-
 add-result : tie.Need-add-result
 add-result c = omega (arith, Length.small _ (c .length-size .ensures))
 
@@ -20,4 +17,4 @@ returns : tie.Need-returns
 returns c = (rw (c .length-size .ensures) (element-size _ _), omega (arith, Length.small _ (c .length-size .ensures)))
 
 pub element-size-spec : {M : Type 1} → statement M
-element-size-spec = tie.close (tie.spec length-size-requires add-result add-result-2 returns)
+element-size-spec = tie.close (tie.spec (λ c κs. search needs) add-result add-result-2 returns)

@@ -17,23 +17,11 @@ known c = ⊎-elim (λ w. result-known _ (w .1 .left)) (λ w. invoke-known _ (w 
 returns : tie.Need-returns
 returns c = no-kind _ _ _ _ _ (c .before .if1 .taken) (c .if2 .taken)
 
-id-fits-requires : tie.Need-id-fits-requires
-id-fits-requires c κs = search needs
-
 returns-2 : tie.Need-returns-2
 returns-2 c = too-many _ _ _ _ _ (known (c .before .before .before)) (sym (c .before .before .id-fits .ensures) ∙ c .before .if3 .taken) (c .if4 .taken)
 
-mul-if5 : tie.Need-mul-if5
-mul-if5 c = search needs
-
 returns-3 : tie.Need-returns-3
 returns-3 c = no-table _ _ _ _ _ (known (c .before .before .before .before)) (sym (c .before .before .before .id-fits .ensures) ∙ c .before .before .if3 .taken) (c .before .if4 .left) (c .if5 .taken)
-
-set-size-requires : tie.Need-set-size-requires
-set-size-requires c κs = search needs
-
-enum-known-set : tie.Need-enum-known-set
-enum-known-set c = search needs
 
 whole-size-requires : tie.Need-whole-size-requires
 whole-size-requires c κs =
@@ -50,9 +38,6 @@ returns-4 c =
     c .whole-size .ensures
     ∙ by-set _ _ _ _ _ (known (fit .before .before)) (sym (fit .before .id-fits .ensures) ∙ fit .if3 .taken) (few .if4 .left) (set .before .if5 .left) (sym (ap countIn (c .before .before .set .given .1)) ∙ set .set-size .ensures .0)
 
-enum-known-number : tie.Need-enum-known-number
-enum-known-number c = search needs
-
 returns-5 : tie.Need-returns-5
 returns-5 c =
     let set = c .before .before .before in
@@ -68,14 +53,13 @@ measure-spec =
     tie.close
     (tie.spec
     returns
-    id-fits-requires
+    (λ c κs. search needs)
     returns-2
-    mul-if5
+    (λ c. search needs)
     returns-3
-    set-size-requires
-    enum-known-set
+    (λ c κs. search needs) (λ c. search needs)
     whole-size-requires
     returns-4
-    enum-known-number
+    (λ c. search needs)
     returns-5
     returns-6)

@@ -8,20 +8,8 @@ use Rattle.component.proofs.Sizing.{brief}
 use Rattle.component.proofs.composing.parameter_size.Statement.{statement}
 use Rattle.component.proofs.composing.parameter_size.Tie as tie
 
-wide-requires : tie.Need-wide-requires
-wide-requires c κs = search needs
-
-add-result : tie.Need-add-result
-add-result c = search needs
-
 returns : tie.Need-returns
 returns c = (rw (c .wide .ensures .0) (brief _ _ (c .before .before .if1 .taken) (c .before .if2 .taken)), omega arith)
-
-identifier-size-requires : tie.Need-identifier-size-requires
-identifier-size-requires c κs = search needs
-
-wide-requires-2 : tie.Need-wide-requires-2
-wide-requires-2 c κs = search needs
 
 element-size-requires : tie.Need-element-size-requires
 element-size-requires c κs = omega (arith, small _ (c .before .identifier-size .ensures))
@@ -36,10 +24,8 @@ pub parameter-size-spec : {M : Type 1} → statement M
 parameter-size-spec =
     tie.close
     (tie.spec
-    wide-requires
-    add-result
+    (λ c κs. search needs) (λ c. search needs)
     returns
-    identifier-size-requires
-    wide-requires-2
+    (λ c κs. search needs) (λ c κs. search needs)
     element-size-requires
     returns-2)

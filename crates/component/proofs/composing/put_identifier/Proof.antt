@@ -7,16 +7,10 @@ use Rattle.component.proofs.Putting.{by-value, value-room}
 use Rattle.component.proofs.composing.put_identifier.Statement.{statement}
 use Rattle.component.proofs.composing.put_identifier.Tie as tie
 
-identifier-field-requires : tie.Need-identifier-field-requires
-identifier-field-requires c κs = search needs
-
 put-field-requires : tie.Need-put-field-requires
 put-field-requires c κs =
     let p = c .before .before .before .pre in
     value-room _ (sizes (only _ _ (p .0) (p .1))) (c .identifier-field .ensures) _ (p .2)
-
-same-length : tie.Need-same-length
-same-length c = search needs
 
 returns : tie.Need-returns
 returns c =
@@ -26,4 +20,4 @@ returns c =
 
 pub put-identifier-spec : {M : Type 1} → statement M
 put-identifier-spec =
-    tie.close (tie.spec identifier-field-requires put-field-requires same-length returns)
+    tie.close (tie.spec (λ c κs. search needs) put-field-requires (λ c. search needs) returns)

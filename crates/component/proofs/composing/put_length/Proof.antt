@@ -7,17 +7,8 @@ use Rattle.component.proofs.Putting.{by-value, value-room}
 use Rattle.component.proofs.composing.put_length.Statement.{statement}
 use Rattle.component.proofs.composing.put_length.Tie as tie
 
-cast-length-field : tie.Need-cast-length-field
-cast-length-field c = search needs
-
-length-field-requires : tie.Need-length-field-requires
-length-field-requires c κs = search needs
-
 put-field-requires : tie.Need-put-field-requires
 put-field-requires c κs = value-room _ (sizes (short _ (c .before .before .before .pre .0))) (c .length-field .ensures) _ (c .before .before .before .pre .1)
-
-same-length : tie.Need-same-length
-same-length c = search needs
 
 returns : tie.Need-returns
 returns c =
@@ -27,4 +18,4 @@ returns c =
 pub put-length-spec : {M : Type 1} → statement M
 put-length-spec =
     tie.close
-    (tie.spec cast-length-field length-field-requires put-field-requires same-length returns)
+    (tie.spec (λ c. search needs) (λ c κs. search needs) put-field-requires (λ c. search needs) returns)

@@ -14,29 +14,14 @@ use Rattle.component.proofs.composing.put_operation.Tie as tie
 slice-write-out : tie.Need-slice-write-out
 slice-write-out c = omega (arith, ap length (operation (c .before .args .kind) (c .before .args .specifier) (c .if1 .taken)))
 
-add-out : tie.Need-add-out
-add-out c = search needs
-
 slice-write-out-2 : tie.Need-slice-write-out-2
 slice-write-out-2 c = simp length-set (omega (arith, ap length (operation (c .before .args .kind) (c .before .args .specifier) (c .if1 .taken))))
-
-add-out-2 : tie.Need-add-out-2
-add-out-2 c = search needs
 
 slice-write-out-3 : tie.Need-slice-write-out-3
 slice-write-out-3 c = simp length-set (omega (arith, ap length (operation (c .before .args .kind) (c .before .args .specifier) (c .if1 .taken))))
 
-add-out-3 : tie.Need-add-out-3
-add-out-3 c = search needs
-
 slice-write-out-4 : tie.Need-slice-write-out-4
 slice-write-out-4 c = simp length-set (omega (arith, ap length (operation (c .before .args .kind) (c .before .args .specifier) (c .if1 .taken))))
-
-add-result : tie.Need-add-result
-add-result c = search needs
-
-same-length : tie.Need-same-length
-same-length c = search needs
 
 returns : tie.Need-returns
 returns c = rw (← operation _ _ (c .if1 .taken), add-one, add-two, add-three) (stored (_ ∷ _ ∷ _ ∷ _ ∷ []) _ _ (omega (arith, ap length (operation (c .before .args .kind) (c .before .args .specifier) (c .if1 .taken)))))
@@ -49,13 +34,12 @@ put-operation-spec =
     tie.close
     (tie.spec
     slice-write-out
-    add-out
+    (λ c. search needs)
     slice-write-out-2
-    add-out-2
+    (λ c. search needs)
     slice-write-out-3
-    add-out-3
+    (λ c. search needs)
     slice-write-out-4
-    add-result
-    same-length
+    (λ c. search needs) (λ c. search needs)
     returns
     returns-2)

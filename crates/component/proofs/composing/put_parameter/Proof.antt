@@ -16,9 +16,6 @@ put-length-requires c κs = omega (arith, parameter-room _ _ _ _ (c .before .bef
 copy-octets-requires : tie.Need-copy-octets-requires
 copy-octets-requires c κs = omega (arith, parameter-room _ _ _ _ (c .before .before .before .before .before .before .before .before .before .before .before .pre .2) _ (c .before .before .before .before .before .before .before .before .before .before .before .pre .4))
 
-same-length : tie.Need-same-length
-same-length c = search needs
-
 returns : tie.Need-returns
 returns c =
     let sized = c .before .before .before .before .before .before in
@@ -31,4 +28,4 @@ returns c =
 pub put-parameter-spec : {M : Type 1} → statement M
 put-parameter-spec =
     tie.close
-    (tie.spec put-identifier-requires put-length-requires copy-octets-requires same-length returns)
+    (tie.spec put-identifier-requires put-length-requires copy-octets-requires (λ c. search needs) returns)

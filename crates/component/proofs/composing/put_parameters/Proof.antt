@@ -23,58 +23,6 @@ abbrev μ-entries : tie.MeasureT-entries
 entries-holds : tie.Need-entries-holds Inv-entries μ-entries
 entries-holds c = (search needs, search needs, rw (← rest-all _ _ _) begins)
 
-mul-wide : tie.Need-mul-wide Inv-entries μ-entries
-mul-wide c = search needs
-
-add-wide : tie.Need-add-wide Inv-entries μ-entries
-add-wide c = search needs
-
-mul-wide-2 : tie.Need-mul-wide-2 Inv-entries μ-entries
-mul-wide-2 c = search needs
-
-shared-slice-read-wide : tie.Need-shared-slice-read-wide Inv-entries μ-entries
-shared-slice-read-wide c = search needs
-
-wide-requires : tie.Need-wide-requires Inv-entries μ-entries
-wide-requires c κs = search needs
-
-mul-wide-3 : tie.Need-mul-wide-3 Inv-entries μ-entries
-mul-wide-3 c = search needs
-
-add-wide-2 : tie.Need-add-wide-2 Inv-entries μ-entries
-add-wide-2 c = search needs
-
-mul-wide-4 : tie.Need-mul-wide-4 Inv-entries μ-entries
-mul-wide-4 c = search needs
-
-shared-slice-read-wide-2 : tie.Need-shared-slice-read-wide-2 Inv-entries μ-entries
-shared-slice-read-wide-2 c = search needs
-
-wide-requires-2 : tie.Need-wide-requires-2 Inv-entries μ-entries
-wide-requires-2 c κs = search needs
-
-mul-put-parameter : tie.Need-mul-put-parameter Inv-entries μ-entries
-mul-put-parameter c = search needs
-
-mul-put-parameter-2 : tie.Need-mul-put-parameter-2 Inv-entries μ-entries
-mul-put-parameter-2 c = search needs
-
-shared-slice-read-put-parameter : tie.Need-shared-slice-read-put-parameter Inv-entries μ-entries
-shared-slice-read-put-parameter c = search needs
-
-mul-put-parameter-3 : tie.Need-mul-put-parameter-3 Inv-entries μ-entries
-mul-put-parameter-3 c = search needs
-
-add-put-parameter : tie.Need-add-put-parameter Inv-entries μ-entries
-add-put-parameter c = search needs
-
-mul-put-parameter-4 : tie.Need-mul-put-parameter-4 Inv-entries μ-entries
-mul-put-parameter-4 c = search needs
-
-shared-slice-read-put-parameter-2 :
-    tie.Need-shared-slice-read-put-parameter-2 Inv-entries μ-entries
-shared-slice-read-put-parameter-2 c = search needs
-
 put-parameter-requires : tie.Need-put-parameter-requires Inv-entries μ-entries
 put-parameter-requires c κs =
     let two = c .before .before .before in
@@ -89,12 +37,6 @@ put-parameter-requires c κs =
       room-for _ _ _ _ (turn .entries-test .taken) (one .wide .ensures .0) (two .wide2 .ensures .0) (head .entries .inv .2) (omega arith),
     )
 
-add-i : tie.Need-add-i Inv-entries μ-entries
-add-i c = search needs
-
-entries-less : tie.Need-entries-less Inv-entries μ-entries
-entries-less c = search needs
-
 entries-again : tie.Need-entries-again Inv-entries μ-entries
 entries-again c =
     let two = c .before .before .before .before .before .before in
@@ -107,9 +49,6 @@ entries-again c =
           (c .before .before .put-parameter .ensures) (omega (arith, left .place, turn .before .before .before .before .before .pre .3)),
     )
 
-same-length : tie.Need-same-length Inv-entries μ-entries
-same-length c = search needs
-
 returns : tie.Need-returns Inv-entries μ-entries
 returns c = ends (rw (rest-none _ _ _ _ (c .entries-test .left)) at (c .before .entries .inv .2))
 
@@ -120,26 +59,12 @@ put-parameters-spec =
     Inv-entries
     μ-entries
     entries-holds
-    mul-wide
-    add-wide
-    mul-wide-2
-    shared-slice-read-wide
-    wide-requires
-    mul-wide-3
-    add-wide-2
-    mul-wide-4
-    shared-slice-read-wide-2
-    wide-requires-2
-    mul-put-parameter
-    mul-put-parameter-2
-    shared-slice-read-put-parameter
-    mul-put-parameter-3
-    add-put-parameter
-    mul-put-parameter-4
-    shared-slice-read-put-parameter-2
+    (λ c. search needs) (λ c. search needs) (λ c. search needs) (λ c. search needs) (λ c κs. search needs)
+    (λ c. search needs) (λ c. search needs) (λ c. search needs) (λ c. search needs) (λ c κs. search needs)
+    (λ c. search needs) (λ c. search needs) (λ c. search needs) (λ c. search needs) (λ c. search needs)
+    (λ c. search needs) (λ c. search needs)
     put-parameter-requires
-    add-i
-    entries-less
+    (λ c. search needs) (λ c. search needs)
     entries-again
-    same-length
+    (λ c. search needs)
     returns)

@@ -20,43 +20,6 @@ abbrev μ-entries : tie.MeasureT-entries
 entries-holds : tie.Need-entries-holds Inv-entries μ-entries
 entries-holds c = (search needs, search needs, begins _ _ _)
 
-entry-stands-requires : tie.Need-entry-stands-requires Inv-entries μ-entries
-entry-stands-requires c κs = search needs
-
-mul-parameter-size : tie.Need-mul-parameter-size Inv-entries μ-entries
-mul-parameter-size c = search needs
-
-mul-parameter-size-2 : tie.Need-mul-parameter-size-2 Inv-entries μ-entries
-mul-parameter-size-2 c = search needs
-
-shared-slice-read-parameter-size : tie.Need-shared-slice-read-parameter-size Inv-entries μ-entries
-shared-slice-read-parameter-size c = search needs
-
-mul-parameter-size-3 : tie.Need-mul-parameter-size-3 Inv-entries μ-entries
-mul-parameter-size-3 c = search needs
-
-add-parameter-size : tie.Need-add-parameter-size Inv-entries μ-entries
-add-parameter-size c = search needs
-
-mul-parameter-size-4 : tie.Need-mul-parameter-size-4 Inv-entries μ-entries
-mul-parameter-size-4 c = search needs
-
-shared-slice-read-parameter-size-2 :
-    tie.Need-shared-slice-read-parameter-size-2 Inv-entries μ-entries
-shared-slice-read-parameter-size-2 c = search needs
-
-parameter-size-requires : tie.Need-parameter-size-requires Inv-entries μ-entries
-parameter-size-requires c κs = search needs
-
-add-sum : tie.Need-add-sum Inv-entries μ-entries
-add-sum c = search needs
-
-add-i : tie.Need-add-i Inv-entries μ-entries
-add-i c = search needs
-
-entries-less : tie.Need-entries-less Inv-entries μ-entries
-entries-less c = search needs
-
 entries-again : tie.Need-entries-again Inv-entries μ-entries
 entries-again c =
     let stood = c .before .before .before in
@@ -67,9 +30,6 @@ entries-again c =
           ∙ sym (goes-on _ _ _ _ _ (stood .before .before .if1 .left) (sym (stood .before .entry-stands .ensures) ∙ stood .if2 .taken)
           (c .parameter-size .ensures .0)),
     )
-
-cast-t20 : tie.Need-cast-t20 Inv-entries μ-entries
-cast-t20 c = search needs
 
 returns : tie.Need-returns Inv-entries μ-entries
 returns c = (ends _ _ _ _ _ (c .if1 .taken) ∙ sym (c .before .entries .inv .2), omega arith)
@@ -84,19 +44,10 @@ set-size-spec =
     Inv-entries
     μ-entries
     entries-holds
-    entry-stands-requires
-    mul-parameter-size
-    mul-parameter-size-2
-    shared-slice-read-parameter-size
-    mul-parameter-size-3
-    add-parameter-size
-    mul-parameter-size-4
-    shared-slice-read-parameter-size-2
-    parameter-size-requires
-    add-sum
-    add-i
-    entries-less
+    (λ c κs. search needs) (λ c. search needs) (λ c. search needs) (λ c. search needs) (λ c. search needs)
+    (λ c. search needs) (λ c. search needs) (λ c. search needs) (λ c κs. search needs) (λ c. search needs)
+    (λ c. search needs) (λ c. search needs)
     entries-again
-    cast-t20
+    (λ c. search needs)
     returns
     returns-2)

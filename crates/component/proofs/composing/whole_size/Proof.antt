@@ -5,15 +5,6 @@ use Rattle.component.proofs.Measuring.{too-long, measures}
 use Rattle.component.proofs.composing.whole_size.Statement.{statement}
 use Rattle.component.proofs.composing.whole_size.Tie as tie
 
-body-size-requires : tie.Need-body-size-requires
-body-size-requires c κs = search needs
-
-element-size-requires : tie.Need-element-size-requires
-element-size-requires c κs = search needs
-
-cast-t7 : tie.Need-cast-t7
-cast-t7 c = search needs
-
 returns : tie.Need-returns
 returns c = too-long _ _ _ (c .before .element-size .ensures .0) (c .before .before .body-size .ensures .0) (c .if1 .taken)
 
@@ -22,4 +13,4 @@ returns-2 c = measures _ _ _ (c .before .element-size .ensures .0) (c .before .b
 
 pub whole-size-spec : {M : Type 1} → statement M
 whole-size-spec =
-    tie.close (tie.spec body-size-requires element-size-requires cast-t7 returns returns-2)
+    tie.close (tie.spec (λ c κs. search needs) (λ c κs. search needs) (λ c. search needs) returns returns-2)
