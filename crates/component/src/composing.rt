@@ -388,7 +388,8 @@ pub fn compose(
     out: &mut [u8],
 ) -> Count
     ensures { λ r. ⌜ (countIn r ≡
-        written (composing kind id specifier count (now (table .entry)) (now (source .entry)) (length (now (out .entry)))))
+        written (composing kind id specifier count (now (table .entry)) (now (source .entry))
+        (length (now (out .entry)))))
         × (now (out .exit) ≡ outputAfter (now (out .entry))
         (composing kind id specifier count (now (table .entry)) (now (source .entry)) (length (now (out .entry))))) ⌝ }
 {

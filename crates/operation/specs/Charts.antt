@@ -1,5 +1,5 @@
--- The starred charts of the paper in one table; and, that no row is empty, for each row a component that it accepts, and
--- one for each of 11 to 14 that it can refuse with. Each with what is told and what the lent table then holds.
+-- The starred charts of the paper in one table; and, that no row is empty, for each row a component that it accepts,
+-- and one for each of 11 to 14 that it can refuse with. Each with what is told and what the lent table then holds.
 use Prim.Native.Nat.{ℕ}
 use mathlib.Core.List.{List, [], _∷_, _++_}
 use lib.ListN.{length, drop, replicate}
