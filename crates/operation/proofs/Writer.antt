@@ -16,12 +16,18 @@ use Rattle.component.specs.Composing.{entryStands, entriesFrom, entriesOf, Size
 use Rattle.component.specs.Needed.{octetsNeeded}
 use Rattle.component.proofs.Taken.{taken, passed, stopped}
 use Rattle.component.proofs.Measuring.{sizesOf, ready}
+use denote.Enum.Declared.{tagOf}
+use types.Run.{OneOf}
+use Rattle.operation.specs.declared.Judged as J
+use Rattle.operation.specs.declared.Judged.the-variants as JV
+use Rattle.operation.specs.inner.Finishing.{Narrow}
 use Rattle.operation.specs.Row.{Row, Item}
 use Rattle.operation.specs.Judge.{judge, countNamed}
 use Rattle.operation.specs.Finding.{rowOf}
-use Rattle.operation.specs.inner.Coded.{itemAt, itemsFrom, judgement, verdict, said}
+use Rattle.operation.specs.inner.Coded.{itemAt, itemsFrom, judgement, verdict, said, judgedIn}
 use Rattle.operation.specs.Items.{itemsOf}
 use Rattle.operation.specs.Writing.{writing, weighing}
+use Rattle.operation.proofs.Judged
 use Rattle.operation.proofs.RowFaults.{row-faulty, pointed-at}
 use Rattle.operation.proofs.Readings.{either-row}
 
@@ -70,6 +76,14 @@ module _ (kind specifier count : ℕ) (t : List ℕ) where
           let b : d ≡ c = cc in
           let (x, mem, mark) = pointed-at (row-faulty row (itemsFrom t 0 count) q) (λ k. g (a ∙ k)) in
           omega (arith, rw zero-add at (mark-below t 0 count x mem))
+
+  -- an entry that is pointed to is one of at most 64
+  pub narrow : count ≤ 64 → (j : J.Judged) → judgedIn j ≡ verdict kind specifier (itemsFrom t 0 count) → Narrow j
+  narrow h (JV.Fits named) e = tt
+  narrow h JV.NoRow e = tt
+  narrow h (JV.Again entry) e = omega (arith, entry-below e (omega arith) (omega arith))
+  narrow h (JV.Missing number) e = tt
+  narrow h (JV.Both entry) e = omega (arith, entry-below e (omega arith) (omega arith))
 
 -- what is done with the parameters once the row has accepted them
 module _ (kind : ℕ) (id : D.Id) (specifier count : ℕ) (t : List ℕ) (source : Octets) {A : Type 0} (work : List Parameter → Answer A) where
@@ -155,3 +169,12 @@ module _ (kind : ℕ) (id : D.Id) (specifier count : ℕ) (t : List ℕ) (source
     pub measure-refuses : {n d : ℕ} → refused n d ≡ measured kind id count t source → Outcome (refused n d) out
     unfolding writing
     measure-refuses e = unchanged (not-measured kind id specifier count t source (λ ps. octetsOf kind id specifier ps (length out)) e)
+
+    -- what is not the first case of the engine's answer is a refusal
+    pub row-answers : {sizes : Sizes} → accepted sizes ≡ measured kind id count t source → (j : J.Judged) → OneOf (1 ∷ 2 ∷ 3 ∷ 4 ∷ []) (tagOf Judged.the-type j) →
+        judgedIn j ≡ said kind specifier count t → Outcome (judgedIn j) out
+    row-answers e (JV.Fits named) k f = absurd (⊎-elim (λ z. omega arith) (⊎-elim (λ z. omega arith) (⊎-elim (λ z. omega arith) (λ z. omega arith))) k)
+    row-answers e JV.NoRow k f = row-refuses e f
+    row-answers e (JV.Again entry) k f = row-refuses e f
+    row-answers e (JV.Missing number) k f = row-refuses e f
+    row-answers e (JV.Both entry) k f = row-refuses e f

@@ -19,6 +19,7 @@ ghost use lib.ListN.{length};
 ghost use Rattle.component.specs.Told.{countIn};
 ghost use Rattle.operation.specs.inner.Coded.{judgedIn, said};
 ghost use Rattle.operation.specs.inner.Finishing.{
+  Narrow,
   specifierFor,
   placeFrom,
   Pointing,
@@ -192,32 +193,39 @@ pub fn read(component: &[u8], specifier: u8, table: &mut [u16]) -> Reading
 
 // ---- writer
 
-// What the row says of the entries, an entry being the detail of 12 and of 14. Where the table has no room for them it
-// says nothing: `measure` refuses that.
-fn judge_table(kind: u8, specifier: u8, count: usize, table: &[u16]) -> Count
-    ensures { λ r. ⌜ countIn r ≡ said kind specifier count (now (table .entry)) ⌝ }
+// What the row says of the entries. Where the table has no room for them it says nothing: `measure` refuses that.
+fn judge_table(kind: u8, specifier: u8, count: usize, table: &[u16]) -> Judged
+    ensures { λ r. ⌜ (judgedIn r ≡ said kind specifier count (now (table .entry))) × Narrow r ⌝ }
 {
     if 64 < count {
-        return Count::Of(0);
+        return Judged::Fits(0);
     }
     if table.len() < 4 * count {
-        return Count::Of(0);
+        return Judged::Fits(0);
     }
-    match judge_operation(kind, specifier, table, count) {
-        Judged::Fits(named) => Count::Of(named),
-        Judged::NoRow => Count::Refused {
+    judge_operation(kind, specifier, table, count)
+}
+
+// The writer's answer by it: an entry is the detail of 12 and of 14.
+fn row_answer(judged: Judged) -> Writing
+    requires { ⌜ Narrow judged ⌝ }
+    ensures { λ r. ⌜ writtenIn r ≡ judgedIn judged ⌝ }
+{
+    match judged {
+        Judged::Fits(named) => Writing::Accepted(named),
+        Judged::NoRow => Writing::Refused {
             number: 11,
             detail: 0,
         },
-        Judged::Again(entry) => Count::Refused {
+        Judged::Again(entry) => Writing::Refused {
             number: 12,
             detail: entry as u32,
         },
-        Judged::Missing(number) => Count::Refused {
+        Judged::Missing(number) => Writing::Refused {
             number: 13,
             detail: number as u32,
         },
-        Judged::Both(entry) => Count::Refused {
+        Judged::Both(entry) => Writing::Refused {
             number: 14,
             detail: entry as u32,
         },
@@ -233,9 +241,9 @@ pub fn weigh(kind: u8, id: Id, specifier: u8, count: usize, table: &[u16], sourc
             whole,
             body: _,
             set: _,
-        } => match judge_table(kind, specifier, count, table) {
-            Count::Of(_) => Count::Of(whole),
-            Count::Refused { number, detail } => Count::Refused { number, detail },
+        } => match row_answer(judge_table(kind, specifier, count, table)) {
+            Writing::Accepted(_) => Count::Of(whole),
+            Writing::Refused { number, detail } => Count::Refused { number, detail },
         },
         Measured::Refused { number, detail } => Count::Refused { number, detail },
     }
@@ -259,22 +267,19 @@ pub fn write(
         writer (order kind id specifier count (now (table .entry)) (now (source .entry)))
         (now (out .entry)) .output) ⌝ }
 {
-    match judge_table(kind, specifier, count, table) {
-        Count::Of(_) => {
-            match component::compose(kind, id, specifier, count, table, source, out) {
-                Count::Of(octets) => Writing::Accepted(octets),
-                Count::Refused { number, detail } => Writing::Refused { number, detail },
-            }
-        }
-        Count::Refused { number, detail } => {
-            match component::measure(kind, id, count, table, source) {
-                Measured::Octets {
-                    whole: _,
-                    body: _,
-                    set: _,
-                } => Writing::Refused { number, detail },
-                Measured::Refused { number, detail } => Writing::Refused { number, detail },
-            }
-        }
+    let judged = judge_table(kind, specifier, count, table);
+    if let Judged::Fits(_) = judged {
+        return match component::compose(kind, id, specifier, count, table, source, out) {
+            Count::Of(octets) => Writing::Accepted(octets),
+            Count::Refused { number, detail } => Writing::Refused { number, detail },
+        };
+    }
+    match component::measure(kind, id, count, table, source) {
+        Measured::Octets {
+            whole: _,
+            body: _,
+            set: _,
+        } => row_answer(judged),
+        Measured::Refused { number, detail } => Writing::Refused { number, detail },
     }
 }

@@ -27,6 +27,14 @@ Pointing count (JV.Again entry) = entry < count
 Pointing count (JV.Missing number) = Unit
 Pointing count (JV.Both entry) = entry < count
 
+-- an entry that a detail of 32 bits can tell
+abbrev pub Narrow : J.Judged → Type 0
+Narrow (JV.Fits named) = Unit
+Narrow JV.NoRow = Unit
+Narrow (JV.Again entry) = entry < 64
+Narrow (JV.Missing number) = Unit
+Narrow (JV.Both entry) = entry < 64
+
 unfoldable pub detailOf : G.Heading → (sheet : List ℕ) (number detail : ℕ) → ℕ
 detailOf h sheet n d = if (eqb n 11) (h .operation) (if (eqb n 13) d (placeFrom sheet (h .set) d))
 
