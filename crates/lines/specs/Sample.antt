@@ -3,7 +3,8 @@ use mathlib.Core.Path.{_≡_, refl}
 use mathlib.Core.List.{[], _∷_, _++_}
 use Rattle.element.specs.Octets.{Octets}
 use Rattle.element.specs.Decoded.{lengthAt, within, numbered, identifierAt}
-use Rattle.component.specs.Layout.{spanOf, contents, wanted, setAt, operation, invoke, result, headFrom, headAt, parameter, parameterAt, parameters, layoutBehind, layoutAt, specifierIn}
+use Rattle.component.specs.Layout.{spanOf, contents, wanted, setAt, operation, invoke, result, headFrom, headAt}
+use Rattle.component.specs.Layout.{parameter, parameterAt, parameters, layoutBehind, layoutAt, specifierIn}
 use Rattle.operation.specs.Row.{key, numberOf, onLine, named, repeats}
 use Rattle.operation.specs.Judge.{occurs, lastMark, once, present, single, judge, countNamed}
 use Rattle.operation.specs.Rows.{operations}
@@ -14,7 +15,8 @@ use Rattle.operation.specs.Told.{told}
 use Rattle.lines.specs.Header.{fieldAt}
 use Rattle.lines.specs.Decimal.{digits, decimal}
 use Rattle.lines.specs.Line.{cell, row, lineOf}
-use Rattle.lines.specs.Listing.{after, lineFor, listing, fills, whole, inputFrom, inputOf, headerLine, cutLine, printed}
+use Rattle.lines.specs.Listing.{after, lineFor, listing, fills, whole, inputFrom, inputOf, printed}
+use Rattle.lines.specs.Listing.{headerLine, cutLine}
 
 abbrev input : Octets
 input =
