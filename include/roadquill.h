@@ -26,8 +26,9 @@ extern "C" {
 #define ROADQUILL_OCTETS 4096
 #define ROADQUILL_PARAMETERS 64
 
-/* The least that a reader's table has: four numbers for each parameter. */
-#define ROADQUILL_NUMBERS 256
+/* The numbers of an entry, and the least that a reader's table has: an entry for each parameter. */
+#define ROADQUILL_ENTRY_NUMBERS 5
+#define ROADQUILL_NUMBERS (ROADQUILL_PARAMETERS * ROADQUILL_ENTRY_NUMBERS)
 
 /*
  * The answer: 0 is accepted, with detail 0; else what is wrong, and the detail
@@ -35,7 +36,7 @@ extern "C" {
  */
 enum {
     ROADQUILL_ACCEPTED = 0,
-    ROADQUILL_TABLE = 1,        /* table too short: reader under 256 numbers, writer under 4 per entry; 0 */
+    ROADQUILL_TABLE = 1,        /* table too short: reader under 320 numbers, writer under 5 per entry; 0 */
     ROADQUILL_SIZE = 2,         /* input empty or over 4,096 octets; 0 */
     ROADQUILL_TYPE = 3,         /* component type not E9 or EA; 0 */
     ROADQUILL_LENGTH = 4,       /* length field of wrong form, not shortest, or cut by its parent's end;
@@ -67,9 +68,10 @@ enum {
 /*
  * Reads a component of `octets` octets. A RESULT is of the operation whose
  * specifier is handed in; in reading an INVOKE it is ignored. Where the
- * component is accepted, four numbers for each parameter go to the table in
+ * component is accepted, five numbers for each parameter go to the table in
  * order of occurrence: its number, 0 primitive or 1 constructor, start of
- * contents in the component, length. Numbers beyond those filled stay.
+ * contents in the component, length, place of its identifier in the
+ * component. Numbers beyond those filled stay.
  *
  * Octet 0 (least significant) of the result is the answer. Refused: octets 1
  * to 4 are the detail, the rest 0. Accepted: octets 1 to 7 are the component
@@ -82,9 +84,10 @@ uint64_t roadquill_read(const uint8_t *component, size_t octets, uint8_t specifi
 /*
  * Writes a component of the type with these ID octets, this specifier (a
  * RESULT has it only to find its row) and so many entries of the table, of
- * four numbers each as the reader fills them; start and length are those of
+ * five numbers each as the reader fills them; start and length are those of
  * the contents in the source. Only the counted leading octets of the output
- * change. An ID octet that is not counted is not looked at.
+ * change. An ID octet that is not counted is not looked at, nor is the fifth
+ * number of an entry.
  *
  * Octet 0 (least significant) of the result is the answer. Octets 1 to 4 are
  * the detail or, accepted, the octet count; the rest is 0.

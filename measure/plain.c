@@ -14,7 +14,8 @@
 
 #define MAX_OCTETS 4096
 #define MAX_PARAMETERS 64
-#define MIN_NUMBERS 256
+#define ENTRY_NUMBERS 5
+#define MIN_NUMBERS (MAX_PARAMETERS * ENTRY_NUMBERS)
 
 #define DIGITS 4
 
@@ -299,10 +300,13 @@ uint64_t plain_read(const uint8_t *component, size_t octets, uint8_t specifier,
     if (!read_structure(&r, octets) || !check_row(&r))
         return r.refusal;
     for (i = 0; i < r.count; i++) {
-        table[4 * i] = r.list[i].number;
-        table[4 * i + 1] = r.list[i].constructor;
-        table[4 * i + 2] = r.list[i].start;
-        table[4 * i + 3] = r.list[i].length;
+        uint16_t *entry = table + ENTRY_NUMBERS * i;
+
+        entry[0] = r.list[i].number;
+        entry[1] = r.list[i].constructor;
+        entry[2] = r.list[i].start;
+        entry[3] = r.list[i].length;
+        entry[4] = r.list[i].place;
     }
     return (uint64_t)r.type << 8 | (uint64_t)r.id_count << 16 | (uint64_t)r.id[0] << 24
          | (uint64_t)r.id[1] << 32 | (uint64_t)r.specifier << 40

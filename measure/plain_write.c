@@ -10,6 +10,9 @@
 #include <stdint.h>
 #include <string.h>
 
+/* Number, form, start, length, and the identifier's place, which is not looked at. */
+#define ENTRY_NUMBERS 5
+
 #define ANSWER(number, detail) ((uint64_t)(number) | (uint64_t)(detail) << 8)
 
 /* The rows as text: type, specifier, then the numbers. A number with `!` must
@@ -84,7 +87,7 @@ static size_t find_entry(const uint16_t *table, size_t entries, unsigned number)
 {
     size_t i = 0;
 
-    while (i < entries && (table[4 * i] != number || table[4 * i + 1] != 0))
+    while (i < entries && (table[ENTRY_NUMBERS * i] != number || table[ENTRY_NUMBERS * i + 1] != 0))
         i++;
     return i;
 }
@@ -98,9 +101,9 @@ static uint64_t check_row(const char *row, const uint16_t *table, size_t entries
     if (row == NULL)
         return ANSWER(11, 0);
     for (size_t i = 0; i < entries; i++) {
-        unsigned number = table[4 * i];
+        unsigned number = table[ENTRY_NUMBERS * i];
 
-        if (table[4 * i + 1] == 0 && number != 4 && is_named(row, number)
+        if (table[ENTRY_NUMBERS * i + 1] == 0 && number != 4 && is_named(row, number)
             && find_entry(table, i, number) < i)
             return ANSWER(12, i);
     }
@@ -174,7 +177,7 @@ static uint64_t measure(struct writing *w, size_t source_octets)
 {
     w->set = 0;
     for (size_t i = 0; i < w->entries; i++) {
-        const uint16_t *entry = w->table + 4 * i;
+        const uint16_t *entry = w->table + ENTRY_NUMBERS * i;
 
         if (entry[0] > 16383 || entry[1] > 1 || (size_t)entry[2] + entry[3] > source_octets)
             return ANSWER(16, i);
@@ -202,7 +205,7 @@ static void compose(const struct writing *w, uint8_t *out)
     *out++ = 0xF2;
     out = put_length(out, w->set);
     for (size_t i = 0; i < w->entries; i++)
-        out = put_entry(out, w->table + 4 * i, w->source);
+        out = put_entry(out, w->table + ENTRY_NUMBERS * i, w->source);
 }
 
 uint64_t plain_write(uint8_t type, uint8_t id_count, uint8_t id_first, uint8_t id_second,
@@ -220,7 +223,7 @@ uint64_t plain_write(uint8_t type, uint8_t id_count, uint8_t id_first, uint8_t i
         return ANSWER(6, 0);
     if (entries > 64)
         return ANSWER(10, 0);
-    if (numbers < 4 * entries)
+    if (numbers < ENTRY_NUMBERS * entries)
         return ANSWER(1, 0);
     fault = measure(&w, source_octets);
     if (fault == 0)

@@ -15,7 +15,8 @@
 
 #define MAX_OCTETS 4096
 #define MAX_PARAMETERS 64
-#define MIN_NUMBERS 256
+#define ENTRY_NUMBERS 5
+#define MIN_NUMBERS (MAX_PARAMETERS * ENTRY_NUMBERS)
 
 #define DIGITS 4
 
@@ -116,25 +117,23 @@ static inline uint64_t element_at(const uint8_t *octets, size_t *at, size_t end,
     return *length > end - *at ? refusal(5, place) : 0;
 }
 
-/* 14: the place of the last entry that is one of the choice. An entry stands
- * where the one before it ends, the first where the set's contents start. */
-static uint64_t both(const uint64_t *entries, size_t count, const struct row *row, size_t set)
+/* 14: the place of the last entry before `entry` that is one of the choice; both are there. */
+static uint64_t both(const uint16_t *entry, const struct row *row)
 {
-    while (count-- > 0) {
-        uint32_t identifier = (uint32_t)entries[count];
-
-        if (identifier == row->one || identifier == row->other)
-            break;
-    }
-    return refusal(14, count == 0 ? set : (entries[count - 1] >> 32 & 0xFFFF) + (entries[count - 1] >> 48));
+    do
+        entry -= ENTRY_NUMBERS;
+    while (entry[1] != 0 || (entry[0] != row->one && entry[0] != row->other));
+    return refusal(14, entry[4]);
 }
 
 uint64_t tuned_read(const uint8_t *component, size_t octets, uint8_t specifier,
                     uint16_t *table, size_t numbers)
 {
-    uint64_t entries[MAX_PARAMETERS], seen[4] = { 0 }, wrong, id = 0;
-    size_t at, set, length, i, count = 0, named = 0, again = 0, operation = 0;
+    uint16_t entries[MIN_NUMBERS];
+    uint64_t seen[4] = { 0 }, wrong, id = 0;
+    size_t at, element, length, i, count = 0, named = 0, again = 0, operation = 0;
     const struct row *row;
+    const uint64_t *names;
     unsigned type, which;
 
     if (numbers < MIN_NUMBERS)
@@ -149,11 +148,11 @@ uint64_t tuned_read(const uint8_t *component, size_t octets, uint8_t specifier,
         return refusal(4, 1);
     if (length != octets - at)
         return refusal(5, length > octets - at ? 0 : at + length);
-    set = at;
+    element = at;
     if ((wrong = element_at(component, &at, octets, 0xCF, 6, &length)) != 0)
         return wrong;
     if (type == INVOKE ? length > 2 : length != 1)
-        return refusal(6, set);
+        return refusal(6, element);
     id = length;
     if (length > 0)
         id |= (uint64_t)component[at] << 8;
@@ -161,11 +160,11 @@ uint64_t tuned_read(const uint8_t *component, size_t octets, uint8_t specifier,
         id |= (uint64_t)component[at + 1] << 16;
     at += length;
     if (type == INVOKE) {
-        set = at;
+        element = at;
         if ((wrong = element_at(component, &at, octets, 0xD1, 7, &length)) != 0)
             return wrong;
         if (length != 2 || component[at] != 9)
-            return refusal(7, set);
+            return refusal(7, element);
         operation = at + 1;
         specifier = component[operation];
         at += 2;
@@ -177,9 +176,12 @@ uint64_t tuned_read(const uint8_t *component, size_t octets, uint8_t specifier,
 
     which = type == INVOKE ? invokes[specifier] : results[specifier];
     row = &rows[which == 0 ? 4 : which - 1];
-    for (set = at; at < octets; count++) {
+    names = row->names;
+    for (; at < octets; count++) {
+        uint16_t *entry;
         size_t place = at, start;
-        unsigned number, form = component[at] >> 5 & 1;
+        uint32_t identifier;
+        unsigned number;
 
         if (count == MAX_PARAMETERS)
             return refusal(10, place);
@@ -191,8 +193,14 @@ uint64_t tuned_read(const uint8_t *component, size_t octets, uint8_t specifier,
             return refusal(4, at);
         if (length > octets - start)
             return refusal(5, place);
-        entries[count] = number | form << 16 | (uint64_t)start << 32 | (uint64_t)length << 48;
-        if (number < 256 && form == 0 && row->names[number / 64] & BIT(number)) {
+        /* number and form at once: the constructor bit, of value 32, goes to the number behind */
+        identifier = number | (component[place] & 0x20u) << 11;
+        entry = entries + ENTRY_NUMBERS * count;
+        memcpy(entry, &identifier, sizeof identifier);
+        entry[2] = (uint16_t)start;
+        entry[3] = (uint16_t)length;
+        entry[4] = (uint16_t)place;
+        if (identifier < 256 && names[number / 64] & BIT(number)) {
             named++;
             if (seen[number / 64] & BIT(number) && number != DIGITS && again == 0)
                 again = place;
@@ -211,7 +219,7 @@ uint64_t tuned_read(const uint8_t *component, size_t octets, uint8_t specifier,
             return refusal(13, number);
     }
     if (row->one != 0 && seen[row->one / 64] & BIT(row->one) && seen[row->other / 64] & BIT(row->other))
-        return both(entries, count, row, set);
-    memcpy(table, entries, 8 * count);
+        return both(entries + ENTRY_NUMBERS * count, row);
+    memcpy(table, entries, ENTRY_NUMBERS * count * sizeof *table);
     return (uint64_t)type << 8 | id << 16 | (uint64_t)specifier << 40 | (uint64_t)count << 48 | (uint64_t)named << 56;
 }

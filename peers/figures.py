@@ -75,7 +75,7 @@ def print_zero(folder, program):
 
 
 def compare(octets, seen):
-    """Counts: all; equal in the four numbers; equal in number, form and place; not shown; and shown but not ours."""
+    """Counts: all; equal but for the place; equal in number, form and place; not shown; and shown but not ours."""
     ours = tcap.walk(octets)
     theirs = [(one.number, one.form, one.start, one.length) for one in seen.shown]
     equal = [one[1:] for one in ours if one[1:] in theirs]
@@ -117,9 +117,14 @@ def print_rows(folder, program):
     print_table(heads, lines + [[f"all, {2 * EACH_ROW * len(drafts.ROWS):,} components", *total]])
 
 
+def entry(one):
+    """The numbers of a table: the place comes last."""
+    return (*one[1:], one[0])
+
+
 def print_any_contents(folder, program):
     found = second.accepted(program, READS, READ_SEED)
-    walked = sum([number for one in tcap.walk(octets) for number in one[1:]] == table for octets, _, table in found)
+    walked = sum([number for one in tcap.walk(octets) for number in entry(one)] == table for octets, _, table in found)
     seen = dissect.dissect(folder, [(octets, specifier) for octets, specifier, _ in found])
     counts = [compare(octets, one) for (octets, _, _), one in zip(found, seen)]
     placed = sum(one[2] > 0 and one[3] == 0 for one in counts)
@@ -128,7 +133,8 @@ def print_any_contents(folder, program):
     print_table(["The second program's own components", "Count"], [
         ("accepted", len(found)),
         ("accepted, and the script's walk gives the second program's table", walked),
-        ("tshark shows every parameter with our four numbers", sum(one[0] == one[1] for one in counts)),
+        ("tshark shows every parameter with our number, form, start and length",
+         sum(one[0] == one[1] for one in counts)),
         ("it shows some by number, form and place only, and loses none", placed),
         ("it loses some", sum(one[3] > 0 for one in counts)),
         ("it shows as a parameter what stands inside a constructor form", sum(one[4] > 0 for one in counts)),

@@ -21,7 +21,11 @@
 //!   expected: u64 packed result
 //!   u32 count of leading output octets that changed, these octets
 //!
-//! "Changed" means written: 4 numbers a parameter, or the component's octets,
+//! An entry of a table is 5 numbers: the parameter's number, 0 primitive or 1
+//! constructor, start of contents, length, and the place of the identifier,
+//! which a writer ignores.
+//!
+//! "Changed" means written: an entry a parameter, or the component's octets,
 //! when accepted, else 0. All other numbers and octets stay as filled.
 //!
 //! Packed result: octet 0 (least significant) is the answer, 0 accepted.
@@ -32,7 +36,8 @@
 
 use crate::generate::{read_case, write_case, ReadCase, WriteCase};
 use crate::random::Random;
-use crate::{reader, writer};
+use crate::reader::{self, ENTRY_NUMBERS};
+use crate::writer;
 use std::io::{self, Write};
 
 /// Seeds the cases of the writer apart from those of the reader, so that the
@@ -62,7 +67,9 @@ pub fn answer_read(case: &ReadCase) -> (reader::Answer, Vec<u16>) {
     let before = table_before(case.numbers);
     let mut table = before.clone();
     let answer = reader::read(&case.component, case.specifier, &mut table);
-    let changed = answer.as_ref().map_or(0, |accepted| 4 * accepted.all);
+    let changed = answer
+        .as_ref()
+        .map_or(0, |accepted| ENTRY_NUMBERS * accepted.all);
     assert_eq!(table[changed..], before[changed..]);
     table.truncate(changed);
     (answer, table)

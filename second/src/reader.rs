@@ -5,7 +5,11 @@ use crate::rows::{self, Identifier, RowFault, INVOKE, RESULT};
 
 pub const LONGEST: usize = 4096;
 pub const MOST_PARAMETERS: usize = 64;
-pub const TABLE_NUMBERS: usize = 256;
+
+/// Number, 0 primitive or 1 constructor, start of contents, length, and the
+/// place of the identifier.
+pub const ENTRY_NUMBERS: usize = 5;
+pub const TABLE_NUMBERS: usize = MOST_PARAMETERS * ENTRY_NUMBERS;
 
 const COMPONENT_ID: u8 = 0xCF;
 const OPERATION_CODE: u8 = 0xD1;
@@ -281,14 +285,15 @@ fn ask_row(component: &[u8], specifier: u8, frame: &Frame, parameters: &[Paramet
     })
 }
 
-/// Four numbers a parameter; the numbers behind them stay.
+/// An entry a parameter; the numbers behind them stay.
 fn fill(table: &mut [u16], parameters: &[Parameter]) {
-    for (numbers, one) in table.chunks_exact_mut(4).zip(parameters) {
-        // Starts and lengths lie below 4,097.
+    for (numbers, one) in table.chunks_exact_mut(ENTRY_NUMBERS).zip(parameters) {
+        // Starts, lengths and places lie below 4,097.
         numbers[0] = one.identifier.number;
         numbers[1] = u16::from(one.identifier.constructor);
         numbers[2] = one.contents.start as u16;
         numbers[3] = one.contents.count() as u16;
+        numbers[4] = one.place as u16;
     }
 }
 

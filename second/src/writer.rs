@@ -1,5 +1,6 @@
 //! The writer: the other way, from entries and their source to octets.
 
+use crate::reader::ENTRY_NUMBERS;
 use crate::refusal::Refusal;
 use crate::rows::{self, Identifier, RowFault, INVOKE, RESULT};
 
@@ -47,10 +48,10 @@ pub fn write(
     if entries > MOST_ENTRIES {
         return Err(Refusal::new(10, 0, "entries"));
     }
-    if table.len() < 4 * entries {
+    if table.len() < ENTRY_NUMBERS * entries {
         return Err(Refusal::new(1, 0, "table"));
     }
-    let list = take_entries(&table[..4 * entries], source)?;
+    let list = take_entries(&table[..ENTRY_NUMBERS * entries], source)?;
     let sizes = measure(head, &list);
     if sizes.whole > LONGEST {
         return Err(Refusal::new(15, sizes.whole, too_long(&sizes)));
@@ -78,12 +79,13 @@ fn check_head(head: Head) -> Result<(), Refusal> {
 
 fn take_entries<'a>(table: &[u16], source: &'a [u8]) -> Result<Vec<Entry<'a>>, Refusal> {
     table
-        .chunks_exact(4)
+        .chunks_exact(ENTRY_NUMBERS)
         .enumerate()
         .map(|(index, numbers)| take_entry(index, numbers, source))
         .collect()
 }
 
+/// The fifth number, the place of an identifier that was read, is ignored.
 fn take_entry<'a>(index: usize, numbers: &[u16], source: &'a [u8]) -> Result<Entry<'a>, Refusal> {
     if numbers[0] > HIGHEST_NUMBER {
         return Err(Refusal::new(16, index, "number"));
@@ -108,7 +110,7 @@ fn take_entry<'a>(index: usize, numbers: &[u16], source: &'a [u8]) -> Result<Ent
 }
 
 /// Octets of a length field; over 65,535 it counts as 4.
-fn field_size(length: usize) -> usize {
+pub(crate) fn field_size(length: usize) -> usize {
     match length {
         0..=0x7F => 1,
         0x80..=0xFF => 2,
@@ -117,7 +119,7 @@ fn field_size(length: usize) -> usize {
     }
 }
 
-fn identifier_size(number: u16) -> usize {
+pub(crate) fn identifier_size(number: u16) -> usize {
     match number {
         0..=30 => 1,
         31..=127 => 2,

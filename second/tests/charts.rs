@@ -1,7 +1,7 @@
 //! Every chart of the paper, starred or not, and the order of the numbers.
 
 use second::listing::list;
-use second::reader::{read, Accepted};
+use second::reader::{read, Accepted, ENTRY_NUMBERS, TABLE_NUMBERS};
 use second::refusal::Refusal;
 
 fn octets(text: &str) -> Vec<u8> {
@@ -12,12 +12,14 @@ fn octets(text: &str) -> Vec<u8> {
 
 const FILL: u16 = 0xAAAA;
 
-/// Reads with a table of 256 numbers and checks that what is not filled
+/// Reads with a table just long enough and checks that what is not filled
 /// stays; answers what is filled.
 fn read_chart(component: &[u8], specifier: u8) -> (Result<Accepted, Refusal>, Vec<u16>) {
-    let mut table = vec![FILL; 256];
+    let mut table = vec![FILL; TABLE_NUMBERS];
     let answer = read(component, specifier, &mut table);
-    let filled = answer.as_ref().map_or(0, |accepted| 4 * accepted.all);
+    let filled = answer
+        .as_ref()
+        .map_or(0, |accepted| ENTRY_NUMBERS * accepted.all);
     assert!(table[filled..].iter().all(|number| *number == FILL));
     table.truncate(filled);
     (answer, table)
@@ -51,11 +53,11 @@ fn chart_a() {
     };
     assert_eq!(answer, expected);
     let entries = [
-        [5, 0, 13, 0],
-        [6, 0, 15, 2],
-        [8, 0, 19, 5],
-        [2, 0, 26, 2],
-        [3, 0, 30, 2],
+        [5, 0, 13, 0, 11],
+        [6, 0, 15, 2, 13],
+        [8, 0, 19, 5, 17],
+        [2, 0, 26, 2, 24],
+        [3, 0, 30, 2, 28],
     ];
     assert_eq!(table, entries.concat());
 }
@@ -86,7 +88,7 @@ fn result_with_channel_data() {
     assert_eq!((answer.kind, answer.specifier), (0xEA, 4));
     assert_eq!((answer.id_count, answer.id), (1, [0x05, 0]));
     assert_eq!((answer.all, answer.named, answer.other), (1, 1, 0));
-    assert_eq!(table, [5, 0, 9, 0]);
+    assert_eq!(table, [5, 0, 9, 0, 7]);
     let (answer, _) = accepted(text, 26);
     assert_eq!((answer.all, answer.named, answer.other), (1, 0, 1));
     assert_eq!(refused(text, 0), (11, 0));
@@ -129,7 +131,7 @@ fn result_of(count: usize) -> Vec<u8> {
 fn longest_component() {
     let (answer, table) = read_chart(&result_of(4096), 26);
     assert_eq!(answer.expect("accepted").other, 1);
-    assert_eq!(table, [0, 0, 15, 4081]);
+    assert_eq!(table, [0, 0, 15, 4081, 11]);
     let (answer, _) = read_chart(&result_of(4097), 26);
     assert_eq!(answer, Err(Refusal::new(2, 0, "")));
 }
@@ -148,7 +150,8 @@ fn result_with(count: usize) -> Vec<u8> {
 fn most_parameters() {
     let (answer, table) = read_chart(&result_with(64), 26);
     assert_eq!(answer.expect("accepted").all, 64);
-    assert_eq!(table[252..], [7, 0, 9 + 128, 0][..]);
+    let last = [7, 0, 9 + 128, 0, 9 + 126];
+    assert_eq!(table[63 * ENTRY_NUMBERS..], last);
     let mut component = result_with(65);
     let (answer, _) = read_chart(&component, 26);
     assert_eq!(answer, Err(Refusal::new(10, 9 + 128, "")));
@@ -164,11 +167,41 @@ fn most_parameters() {
 
 #[test]
 fn table_too_short_comes_first() {
-    for numbers in [0, 1, 255] {
+    for numbers in [0, 1, 255, 256, 319] {
         let mut table = vec![FILL; numbers];
         assert_eq!(read(&[], 0, &mut table), Err(Refusal::new(1, 0, "")));
+        let answer = read(&octets(A), 0, &mut table);
+        assert_eq!(answer, Err(Refusal::new(1, 0, "")));
         assert!(table.iter().all(|number| *number == FILL));
     }
+    for numbers in [320, 321, 2560] {
+        let mut table = vec![FILL; numbers];
+        assert_eq!(read(&[], 0, &mut table), Err(Refusal::new(2, 0, "")));
+        assert!(read(&octets(A), 0, &mut table).is_ok());
+    }
+}
+
+/// The first octet of the identifier, however many octets it and the length
+/// field take, and whatever octets the contents are.
+#[test]
+fn places() {
+    let text = "EA 13 CF 01 05 F2 0E 9F 81 72 01 9F BF 20 00 85 02 85 00 80 00";
+    let entries = [
+        [242, 0, 11, 1, 7],
+        [32, 1, 15, 0, 12],
+        [5, 0, 17, 2, 15],
+        [0, 0, 21, 0, 19],
+    ];
+    assert_eq!(accepted(text, 26).1, entries.concat());
+    // Both longer forms of a length before the set, and one in it.
+    let mut component = octets("EA 82 01 05 CF 01 05 F2 81 FF 84 81 80");
+    component.extend([0x84; 128]);
+    component.extend(octets("84 7A"));
+    component.extend([0x84; 122]);
+    let entries = [[4, 0, 13, 128, 10], [4, 0, 143, 122, 141]];
+    let (answer, table) = read_chart(&component, 64);
+    assert_eq!(answer.expect("accepted").named, 2);
+    assert_eq!(table, entries.concat());
 }
 
 #[test]

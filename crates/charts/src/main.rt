@@ -1,6 +1,7 @@
 // Runs the charts of the paper, as tagged fields on standard input: A without 85 00, and with a second one; EA 07 with
 // specifiers 4, 26 and 0; EA 05 with 4 and 26; empty, E9, E9 00, 30 00, E9 80 and E9 81 05; 4,096 octets and 4,097;
-// 64 parameters and 65; and A, whose first entry the table then shows: where ChannelData starts, and its length.
+// 64 parameters and 65; and A, of whose first entry, ChannelData, the table then shows where the contents start, their
+// length, and the place of the identifier.
 use libc::STDIN_FILENO;
 use libc::STDOUT_FILENO;
 
@@ -11,8 +12,9 @@ fn print(number: u16, mark: &[u8]) {
 
 fn main() {
     let mut component = [0u8; 4097];
-    let mut table = [0u16; 256];
+    let mut table = [0u16; component::TABLE];
     fields::list(STDIN_FILENO, STDOUT_FILENO, &mut component, &mut table);
     print(table[2], b" ");
-    print(table[3], b"\n");
+    print(table[3], b" ");
+    print(table[4], b"\n");
 }

@@ -18,8 +18,7 @@ use Rattle.component.specs.Layout.{Span, contents, spanOf, wanted, setAt
 use Rattle.component.specs.Table.{Entry, next}
 use Rattle.component.specs.Grammar.{Parameter, Element, laid, Parameters, Component, Laid, invoked, answered, parametersOf, kindOf, identifierOf, specifierOf}
 use Rattle.component.specs.Grammar as G
-use Rattle.component.proofs.Shown.{Shows, Pairwise, Outlines}
-use Rattle.component.proofs.Shown as S
+use Rattle.component.proofs.Shown.{Outlines, standing-show}
 use Rattle.component.specs.Standing.{entryAt, entriesAt, standing, specifierPlace}
 
 -- an answer that accepts what `P` holds of, step by step
@@ -111,7 +110,6 @@ module _ (s : Octets) where
 
   -- parameters
   record Next (p : Parameter) (at : ℕ) (e : Octets) (x : Entry) : Type 0 where
-    shows : Shows s x p
     ends : at + length e ≡ next x
     stands : x ≡ entryAt at e p
 
@@ -122,23 +120,22 @@ module _ (s : Octets) where
       let (rest, b) = seen (identified w h .1) end (omega (arith, longer w)) in
       rw (b, I.complete n rest)
       (then (contents-of w h end k) λ x i. accepts (record {
-        shows = record { number = refl; form = refl; inside = omega arith; content = body-of i };
         ends = omega arith;
         stands = stands-at p w (omega arith) (omega arith);
       }))
 
   parameters-of : {ps : List Parameter} {set : Octets} (r : Parameters ps set) → {at : ℕ} {behind : Octets} (room end : ℕ) → Stands at set behind →
-      at + length set ≡ end → end ≤ length s → length ps ≤ room → Accepts (λ es. Pairwise (Shows s) es ps × (es ≡ entriesAt at r)) (parameters room s at end)
+      at + length set ≡ end → end ≤ length s → length ps ≤ room → Accepts (λ es. es ≡ entriesAt at r) (parameters room s at end)
   unfolding parameters entriesAt
-  parameters-of G.none {at} zero end e h k l = rw (le-leb end at (omega arith)) (accepts (S.none, refl))
-  parameters-of G.none {at} (suc room) end e h k l = rw (le-leb end at (omega arith)) (accepts (S.none, refl))
+  parameters-of G.none {at} zero end e h k l = rw (le-leb end at (omega arith)) (accepts refl)
+  parameters-of G.none {at} (suc room) end e h k l = rw (le-leb end at (omega arith)) (accepts refl)
   parameters-of (G.more p n w r) zero end e h k l = absurd (omega arith)
   parameters-of (G.more p {s = i} {rest = rest} n w r) {at} (suc room) end e h k l =
       let m = length-append i rest in
       rw (lt-leb end at (omega (arith, longer w)))
       (then (parameter-of p n w (front i rest e) end (omega arith) k) λ x a.
       then (parameters-of r room end (rw (a .ends) at (back i rest e)) (omega arith) k (omega arith)) λ es b.
-      accepts (S.more (a .shows) (b .0), ap₂ (λ y ys. y ∷ ys) (a .stands) (b .1 ∙ ap (λ k. entriesAt k r) (sym (a .ends)))))
+      accepts (ap₂ (λ y ys. y ∷ ys) (a .stands) (b ∙ ap (λ k. entriesAt k r) (sym (a .ends)))))
 
   -- the component
   record Heads {c : Component} (x : Laid c s) (h : Head) : Type 0 where
@@ -210,8 +207,9 @@ complete {c} {s} x h k = taken
     (then (head-of x h) λ y a.
     then (parameters-of s (a .holds) 64 (y .set .end) (a .set .starts) (omega arith) (omega arith) k) λ es b.
     let z : y .set .start ≡ length s - length (a .octets) = omega arith in
+    let q = b ∙ ap (λ k. entriesAt k (a .holds)) z ∙ a .stands in
     accepts (record {
-      outlines = record { kind = a .kind; id = a .id; specifier = a .specifier; shows = b .0 };
-      entries = b .1 ∙ ap (λ k. entriesAt k (a .holds)) z ∙ a .stands;
+      outlines = record { kind = a .kind; id = a .id; specifier = a .specifier; shows = rw q (standing-show x) };
+      entries = q;
       operation = a .place;
     }))

@@ -1,44 +1,26 @@
 -- The count over the entries against the definition: what is left of it, and its laws: it begins, ends, goes on, stops.
-use Prim.Native.Nat.{ℕ, suc, _+_, _*_, _-_, _<_, _≤_}
+use Prim.Native.Nat.{ℕ, suc, _+_, _-_, _<_, _≤_}
 use mathlib.Core.Path.{_≡_, refl, sym, ap, _∙_}
-use mathlib.Core.Bool.{Bool, true, false, _&&_}
+use mathlib.Core.Bool.{true, false}
 use mathlib.Core.List.{List, _∷_}
-use lib.ListN.{length, getD}
-use borrow.Author.Tests.{leb-true}
+use lib.ListN.{length}
 use native.Mathlib.Omega.{arith}
 use native.Mathlib.Nat.{add-zero, zero-add, sub-zero}
 use Rattle.element.specs.Octets.{Octets}
 use Rattle.element.specs.Answer.{Answer, accepted, refused, _>>=_}
 use Rattle.element.specs.Identifier.{identifierSize}
 use Rattle.component.specs.Grammar.{Parameter}
-use Rattle.component.specs.Part.{fits}
-use Rattle.component.specs.Table.{entryOf}
-use Rattle.component.specs.Composing.{entryStands, entriesFrom}
+use Rattle.component.specs.Table.{Entry, held, heldFrom, EntryStands, parameterOf}
+use Rattle.component.specs.Composing.{entryStands, takenFrom, entriesFrom}
 use Rattle.component.specs.Needed.{elementSize, setSize}
 use Rattle.component.specs.inner.Emitting.{sized}
+use Rattle.component.proofs.Entries.{stands}
 use Rattle.component.proofs.Putting.{part-length}
 
-both : (a b : Bool) → (a && b) ≡ true → (a ≡ true) × (b ≡ true)
-both true b e = (refl, e)
-both false b e = (e, cc)
-
-pub record Stands (t : List ℕ) (source : Octets) (i : ℕ) : Type 0 where
-  pub number : getD t (4 * i) 0 ≤ 16383
-  pub form : getD t (4 * i + 1) 0 ≤ 1
-  pub content : getD t (4 * i + 2) 0 + getD t (4 * i + 3) 0 ≤ length source
-
-pub stands : (t : List ℕ) (source : Octets) (i : ℕ) → entryStands t source i ≡ true → Stands t source i
-unfolding entryStands fits
-stands t source i e =
-    let (n, p) = both _ _ e in
-    let (f, c) = both _ _ p in
-    record { number = leb-true _ _ n; form = leb-true _ _ f; content = leb-true _ _ c }
-
-entry-size : (t : List ℕ) (source : Octets) (i : ℕ) → Stands t source i →
-    elementSize (identifierSize (getD t (4 * i) 0)) (getD t (4 * i + 3) 0) ≡ elementSize (identifierSize (entryOf t source i .number)) (length (entryOf t source i .content))
-unfolding entryOf
-entry-size t source i s =
-    ap (elementSize (identifierSize (getD t (4 * i) 0))) (sym (part-length source (getD t (4 * i + 2) 0) (getD t (4 * i + 3) 0) (s .content)))
+entry-size : {source : Octets} {e : Entry} → EntryStands source e →
+    elementSize (identifierSize (e .number)) (e .size) ≡ elementSize (identifierSize (parameterOf source e .number)) (length (parameterOf source e .content))
+unfolding parameterOf
+entry-size {source} {e} s = ap (elementSize (identifierSize (e .number))) (sym (part-length source (e .start) (e .size) (s .content)))
 
 -- what is left from entry `i` on, where `sum` octets are counted
 unfoldable pub left : (count : ℕ) (table : List ℕ) (source : Octets) (i sum : ℕ) → Answer ℕ
@@ -62,21 +44,19 @@ module _ (count : ℕ) (t : List ℕ) (source : Octets) where
 
   module _ (i sum : ℕ) where
     pub ends : count ≤ i → accepted sum ≡ left count t source i sum
-    unfolding left entriesFrom setSize
+    unfolding left takenFrom heldFrom setSize
     ends h = let e : count - i ≡ 0 = omega arith in rw e (simp add-zero)
 
     module _ (h : i < count) where
       room : count - i ≡ suc (count - (i + 1))
       room = omega arith
 
-      pub goes-on : {size : ℕ} → entryStands t source i ≡ true →
-          size ≡ elementSize (identifierSize (getD t (4 * i) 0)) (getD t (4 * i + 3) 0) →
+      pub goes-on : {size : ℕ} → entryStands source (held t i) ≡ true → size ≡ elementSize (identifierSize (held t i .number)) (held t i .size) →
           left count t source (i + 1) (sum + size) ≡ left count t source i sum
-      unfolding left entriesFrom
+      unfolding left takenFrom heldFrom
       goes-on {size} e f =
-          let p = entryOf t source i in
-          rw room (simp e (one-more sum size p (entriesFrom (i + 1) (count - (i + 1)) t source) (f ∙ entry-size t source i (stands t source i e))))
+          rw room (simp e (one-more sum size (parameterOf source (held t i)) (entriesFrom (i + 1) (count - (i + 1)) t source) (f ∙ entry-size (stands e))))
 
-      pub stops : entryStands t source i ≡ false → refused 16 i ≡ left count t source i sum
-      unfolding left entriesFrom
+      pub stops : entryStands source (held t i) ≡ false → refused 16 i ≡ left count t source i sum
+      unfolding left takenFrom heldFrom
       stops e = rw room (simp e)

@@ -11,7 +11,7 @@ use Rattle.element.proofs.LengthLaws as Length
 use Rattle.element.proofs.IdentifierLaws as Identifier
 use Rattle.component.specs.Grammar.{Parameter, Parameters, more, Component, Laid, invoked, answered, kindOf, identifierOf, specifierOf}
 use Rattle.component.specs.Faults.{component, Unheld, no-field, overrun, Unfound, ended, other, LeftOver, left, InSet, NoSet, NoOperation, NoBody, Whole, Faulty, LaidOut}
-use Rattle.component.specs.Table.{Entry, entryOf, parametersFrom}
+use Rattle.component.specs.Table.{Entry, width, held, heldFrom, parameterOf, parametersFrom}
 use Rattle.component.specs.Standing.{entryAt, entriesAt, standing, specifierPlace}
 use Rattle.component.specs.Needed.{elementSize, setSize, bodySize, octetsNeeded}
 use Rattle.component.proofs.Complete.{longer, complete}
@@ -100,12 +100,12 @@ coded false = omega arith
 
 module _ (t : List ℕ) (source : Octets) (h : (i : ℕ) → getD t i 0 < 65536) where
   set-most : (i n : ℕ) → setSize (parametersFrom i n t source) ≤ n * 65542
-  unfolding setSize parametersFrom entryOf elementSize
+  unfolding setSize parametersFrom heldFrom parameterOf elementSize
   set-most i zero = omega arith
   set-most i (suc n) =
-      let size = getD t (4 * i + 3) 0 in
-      let content = drop (getD t (4 * i + 2) 0) source in
-      omega (arith, h (4 * i + 3), length-take size content, Identifier.small (getD t (4 * i) 0) refl, Length.small (length (take size content)) refl, set-most (i + 1) n)
+      let e = held t i in
+      let content = drop (e .start) source in
+      omega (arith, h (width * i + 3), length-take (e .size) content, Identifier.small (e .number) refl, Length.small (length (take (e .size) content)) refl, set-most (i + 1) n)
 
   pub needed-most : (kind id n : ℕ) → id ≤ 2 → n ≤ 64 → octetsNeeded kind id (parametersFrom 0 n t source) < 4294967296
   unfolding octetsNeeded bodySize elementSize

@@ -25,13 +25,10 @@ pub record Held (from end : ℕ) (x : Span) : Type 0 where
   pub ordered : x .start ≤ x .end
   pub inside : x .end ≤ end
 
--- where a parameter stands, and its numbers
+-- where the contents of a parameter stand
 pub record Placed (at end : ℕ) (e : Entry) : Type 0 where
-  pub place : e .place ≡ at
   pub behind : at < e .start
   pub inside : next e ≤ end
-  pub number : e .number ≤ 16383
-  pub form : e .form ≤ 1
 
 module _ (s : Octets) (o : AreOctets s) where
   pub inside : (at : ℕ) {from end : ℕ} {x : Span} → contents s at from end ≡ accepted x → Held from end x
@@ -73,6 +70,6 @@ module _ (s : Octets) (o : AreOctets s) where
           let (x, g, y) = taken (contents s at (at + k) end) r in
           let z : record { number = number; form = form; place = at; start = x .start; size = sizeOf x } ≡ e = cc in
           let i = inside at g in
-          rw (← z) (record { place = refl; behind = omega arith; inside = omega arith; number = omega arith; form = omega arith })
+          rw (← z) (record { behind = omega arith; inside = omega arith })
       go IV.IllFormed q r = let z : _≡_ {A = ℕ} 0 1 = cc in absurd (omega arith)
       go IV.TooLarge q r = let z : _≡_ {A = ℕ} 0 1 = cc in absurd (omega arith)

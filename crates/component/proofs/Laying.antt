@@ -13,12 +13,11 @@ use Rattle.component.specs.declared.Heading as G
 use Rattle.component.specs.Table.{Entry}
 use Rattle.component.specs.Layout.{Span, sizeOf, contents, wanted, setAt, Head, operation, invoke, result, headFrom, headAt, parameterAt, parameterFrom, parameters, Layout, layoutBehind, layoutAt}
 use Rattle.component.specs.Outline.{headingOf, headed, headingsAt}
-use Rattle.component.proofs.Shown.{Contiguous}
 use Rattle.component.proofs.Ends.{Ends, gives, given, then, below, at-most, equal, either}
 use Rattle.component.proofs.Asking.{Any, any}
 use Rattle.component.proofs.Taken.{taken, passed, stopped}
 use Rattle.component.proofs.Inside.{Placed, wanted-inside, set-inside, parameter-inside}
-use Rattle.component.proofs.Walk.{parameters-ends}
+use Rattle.component.proofs.Walk.{parameters-few}
 
 -- the set reaches to the end of the octets, and the specifier's place, 0 in a RESULT, is one of theirs
 pub record Bounded (s : Octets) (h : Head) : Type 0 where
@@ -29,7 +28,6 @@ pub record Bounded (s : Octets) (h : Head) : Type 0 where
 
 pub record Ordered (s : Octets) (l : Layout) : Type 0 where
   pub head : Bounded s (l .head)
-  pub contiguous : Contiguous (l .head .set .start) (l .entries)
   pub few : length (l .entries) ≤ 64
 
 -- ---- one parameter
@@ -80,8 +78,8 @@ module _ (s : Octets) (o : AreOctets s) where
     unfolding layoutAt layoutBehind
     layout-ends =
         then head-ends λ h b.
-        then (parameters-ends s o (h .set .end) 64) λ es f.
-        gives (record { head = b; contiguous = f .contiguous; few = f .count })
+        then (parameters-few s (h .set .end) 64 (h .set .start)) λ es f.
+        gives (record { head = b; few = f })
 
     pub ordered : {l : Layout} → layoutAt s from ≡ accepted l → Ordered s l
     ordered e = given layout-ends e

@@ -11,9 +11,9 @@ use native.Mathlib.Omega.{arith}
 use Rattle.element.specs.Octets.{Octets}
 use Rattle.element.specs.Answer.{accepted}
 use Rattle.component.specs.declared.Id as D
-use Rattle.component.specs.Table.{Entry, idOf, tableWith, idOctets, componentOf}
+use Rattle.component.specs.Table.{Entry, width, idOf, tableWith, idOctets, componentOf}
 use Rattle.component.specs.Grammar.{Parameter, Component, Invoke, Result, parametersOf, kindOf, identifierOf, specifierOf}
-use Rattle.component.proofs.Shown.{Shows, Pairwise}
+use Rattle.component.specs.Standing.{Shows, Pairwise}
 use Rattle.component.specs.Composed.{composed}
 use Rattle.component.proofs.Composable.{Composable, Typed, Identified}
 use Rattle.component.specs.Composing.{entriesFrom, idFits, entriesOf, octetsOf}
@@ -21,7 +21,7 @@ use Rattle.component.specs.Needed.{octetsNeeded}
 use Rattle.component.proofs.Composition.{Kinds, id-length}
 use Rattle.component.proofs.Measuring.{ready}
 use Rattle.component.proofs.Sizes.{sized}
-use Rattle.component.proofs.Entries.{entries-stand, as-many, table-shown}
+use Rattle.component.proofs.Entries.{holds, roomy, shown-taken, entries-stand, as-many}
 
 -- ---- a component again
 id-again : (id : Octets) → length id ≤ 2 → idOctets (idOf id) ≡ id
@@ -48,15 +48,15 @@ module _ (c : Component) (h : Composable c) where
   pub entries-again : length (parametersOf c) ≤ 64 → {s : Octets} {es : List Entry} → Pairwise (Shows s) es (parametersOf c) → (t : List ℕ) →
       entriesOf (kindOf c) (idOf (identifierOf c)) (length es) (tableWith es t) s ≡ accepted (parametersOf c)
   unfolding entriesOf idOf
-  entries-again few {es = es} shows t =
+  entries-again few {s} {es} shows t =
       let (a, b) = fitting c (h .typed) in
-      let (l, e) = table-shown shows (h .identified) t in
       rw (
         a,
         b,
         le-leb (length es) 64 (omega (arith, as-many shows)),
-        le-leb (4 * length es) (length (tableWith es t)) l,
-        e,
+        le-leb (width * length es) (length (tableWith es t)) (roomy es t),
+        holds es t,
+        shown-taken s shows (h .identified) 0,
         needed,
         le-leb (length (composed c)) 4096 (h .size),
       )

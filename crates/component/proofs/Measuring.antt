@@ -11,6 +11,7 @@ use Rattle.element.specs.Answer.{Answer, accepted, refused, _>>=_, _>>_, check}
 use Rattle.component.specs.declared.Id as D
 use Rattle.component.specs.Grammar.{Parameter}
 use Rattle.component.specs.Needed.{elementSize, setSize, bodySize, octetsNeeded}
+use Rattle.component.specs.Table.{width}
 use Rattle.component.specs.Composing.{idFits, entriesFrom, entriesOf, Sizes, measured}
 use Rattle.component.specs.inner.Emitting.{sized, measuredOf}
 use Rattle.component.proofs.Taken.{taken, passed}
@@ -55,14 +56,14 @@ module _ (kind : ℕ) (id : D.Id) (count : ℕ) (t : List ℕ) (source : Octets)
       too-many h = simp (known, fit, lt-leb count 64)
 
       module _ (few : count ≤ 64) where
-        pub no-table : length t < 4 * count → refused 1 0 ≡ measured kind id count t source
+        pub no-table : length t < width * count → refused 1 0 ≡ measured kind id count t source
         unfolding measured entriesOf
-        no-table h = simp (known, fit, le-leb count 64, lt-leb (4 * count) (length t))
+        no-table h = simp (known, fit, le-leb count 64, lt-leb (width * count) (length t))
 
-        module _ (room : 4 * count ≤ length t) where
+        module _ (room : width * count ≤ length t) where
           by-entries : (sized (entriesFrom 0 count t source) >>= measuredOf kind (id .count)) ≡ measured kind id count t source
           unfolding measured entriesOf
-          by-entries = simp (known, fit, le-leb count 64, le-leb (4 * count) (length t)) (through kind (id .count) (entriesFrom 0 count t source))
+          by-entries = simp (known, fit, le-leb count 64, le-leb (width * count) (length t)) (through kind (id .count) (entriesFrom 0 count t source))
 
           pub no-entry : {n d : ℕ} → refused n d ≡ sized (entriesFrom 0 count t source) → refused n d ≡ measured kind id count t source
           no-entry e = rw (← e) at by-entries
@@ -84,7 +85,7 @@ module _ (kind : ℕ) (id : D.Id) (count : ℕ) (t : List ℕ) (source : Octets)
   pub record Ready (ps : List Parameter) : Type 0 where
     pub allowed : Kinds kind (id .count)
     pub few : count ≤ 64
-    pub room : 4 * count ≤ length t
+    pub room : width * count ≤ length t
     pub entries : entriesFrom 0 count t source ≡ accepted ps
     pub short : octetsNeeded kind (id .count) ps ≤ 4096
 
@@ -94,7 +95,7 @@ module _ (kind : ℕ) (id : D.Id) (count : ℕ) (t : List ℕ) (source : Octets)
       let (k, a) = passed (eqb kind 0xE9 || eqb kind 0xEA) 3 0 e in
       let (f, b) = passed (idFits kind (id .count)) 6 0 a in
       let (m, c) = passed (leb count 64) 10 0 b in
-      let (r, d) = passed (leb (4 * count) (length t)) 1 0 c in
+      let (r, d) = passed (leb (width * count) (length t)) 1 0 c in
       let (qs, x, y) = taken (entriesFrom 0 count t source) d in
       let (l, z) = passed (leb (octetsNeeded kind (id .count) qs) 4096) 15 (octetsNeeded kind (id .count) qs) y in
       let same : qs ≡ ps = cc in

@@ -13,7 +13,7 @@ use Rattle.component.specs.declared.Id as D
 use Rattle.component.specs.Composed.{setOf, composed}
 use Rattle.component.specs.Needed.{setSize, bodySize, octetsNeeded}
 use Rattle.component.specs.Composing.{entriesOf, Sizes, measured, octetsOf, composing, written, outputAfter}
-use Rattle.component.specs.Table.{parametersFrom, componentOf}
+use Rattle.component.specs.Table.{width, parametersFrom, componentOf}
 use Rattle.component.specs.inner.Emitting.{Put, headOctets, AllStand}
 use Rattle.component.proofs.Putting.{then}
 use Rattle.component.proofs.Composition as composition
@@ -91,7 +91,7 @@ module _ (kind : ℕ) (id : D.Id) (count : ℕ) (t : List ℕ) (source : Octets)
             (composition.two-at-most (f .ready .allowed), omega arith, omega (arith, short-set), omega (arith, lengths))
 
         module _ {next : ℕ} {mid : Octets} (p : Put (headOctets kind id specifier body set) 0 out next mid) where
-          pub set-ready : length mid ≡ length out → (count ≤ 64) × (4 * count ≤ length t) × AllStand count t source
+          pub set-ready : length mid ≡ length out → (count ≤ 64) × (width * count ≤ length t) × AllStand count t source
               × (next + length (setOf (parametersFrom 0 count t source)) ≤ length mid)
           set-ready e = (f .ready .few, f .ready .room, stand t source count (f .ready .entries), omega (arith, lengths, p .place))
 

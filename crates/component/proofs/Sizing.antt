@@ -1,9 +1,8 @@
 -- The octets counted: what each step of the definition says, where the tests on the way hold.
-use Prim.Native.Nat.{ℕ, _+_, _*_, _<_, _≤_}
+use Prim.Native.Nat.{ℕ, _+_, _<_, _≤_}
 use mathlib.Core.Path.{_≡_, refl}
 use mathlib.Core.Bool.{false}
-use mathlib.Core.List.{List}
-use lib.ListN.{length, getD}
+use lib.ListN.{length}
 use lib.Dec.{leb}
 use borrow.Author.Tests.{lt-ltb, le-leb, lt-leb, eq-eqb, ne-eqb}
 use native.Mathlib.Omega.{arith}
@@ -12,6 +11,7 @@ use Rattle.element.specs.Length.{fieldSize}
 use Rattle.element.specs.Identifier.{identifierSize}
 use Rattle.component.specs.Part.{fits}
 use Rattle.component.specs.Needed.{elementSize, bodySize}
+use Rattle.component.specs.Table.{Entry}
 use Rattle.component.specs.Composing.{entryStands}
 
 pub element-size : (head body : ℕ) → head + fieldSize body + body ≡ elementSize head body
@@ -21,6 +21,10 @@ element-size head body = refl
 pub brief : (number size : ℕ) → number < 31 → size < 128 → 2 + size ≡ elementSize (identifierSize number) size
 unfolding elementSize identifierSize fieldSize
 brief number size h k = simp (lt-ltb number 31, lt-ltb size 128)
+
+pub one-octet : (number : ℕ) → number < 31 → 1 ≡ identifierSize number
+unfolding identifierSize
+one-octet number h = simp (lt-ltb number 31)
 
 -- an ID has at most two octets, so its length field is one
 module _ (kind id set : ℕ) (few : id ≤ 2) where
@@ -32,16 +36,16 @@ module _ (kind id set : ℕ) (few : id ≤ 2) where
   unfolding bodySize elementSize fieldSize
   without h = simp (ne-eqb kind 0xE9, lt-ltb id 128 (omega arith)) (omega arith)
 
-module _ (t : List ℕ) (source : Octets) (i : ℕ) where
-  pub no-number : 16383 < getD t (4 * i) 0 → false ≡ entryStands t source i
+module _ (source : Octets) (e : Entry) where
+  pub no-number : 16383 < e .number → false ≡ entryStands source e
   unfolding entryStands
-  no-number h = simp (lt-leb (getD t (4 * i) 0) 16383)
+  no-number h = simp (lt-leb (e .number) 16383)
 
-  module _ (h : getD t (4 * i) 0 ≤ 16383) where
-    pub no-form : 1 < getD t (4 * i + 1) 0 → false ≡ entryStands t source i
+  module _ (h : e .number ≤ 16383) where
+    pub no-form : 1 < e .form → false ≡ entryStands source e
     unfolding entryStands
-    no-form k = simp (le-leb (getD t (4 * i) 0) 16383, lt-leb (getD t (4 * i + 1) 0) 1)
+    no-form k = simp (le-leb (e .number) 16383, lt-leb (e .form) 1)
 
-    pub by-place : getD t (4 * i + 1) 0 ≤ 1 → leb (getD t (4 * i + 2) 0 + getD t (4 * i + 3) 0) (length source) ≡ entryStands t source i
+    pub by-place : e .form ≤ 1 → leb (e .start + e .size) (length source) ≡ entryStands source e
     unfolding entryStands fits
-    by-place k = simp (le-leb (getD t (4 * i) 0) 16383, le-leb (getD t (4 * i + 1) 0) 1)
+    by-place k = simp (le-leb (e .number) 16383, le-leb (e .form) 1)

@@ -1,8 +1,8 @@
 -- What a writer composes from a table of entries and the source they point into, up to the refusals that need no row.
-use Prim.Native.Nat.{ℕ, zero, suc, _+_, _*_}
+use Prim.Native.Nat.{ℕ, _+_, _*_}
 use mathlib.Core.Bool.{Bool, _&&_, _||_}
 use mathlib.Core.List.{List, [], _∷_, _++_}
-use lib.ListN.{length, getD, drop}
+use lib.ListN.{length, drop}
 use lib.Dec.{leb, eqb}
 use Rattle.element.specs.Octets.{Octets, if}
 use Rattle.element.specs.Answer.{Answer, accepted, refused, _>>=_, _>>_, check}
@@ -10,21 +10,23 @@ use Rattle.component.specs.declared.Id as D
 use Rattle.component.specs.Grammar.{Parameter}
 use Rattle.component.specs.Composed.{composed}
 use Rattle.component.specs.Part.{fits}
-use Rattle.component.specs.Table.{entryOf, componentOf}
+use Rattle.component.specs.Table.{Entry, width, heldFrom, parameterOf, componentOf}
 use Rattle.component.specs.Needed.{setSize, bodySize, octetsNeeded}
 
-unfoldable pub entryStands : (table : List ℕ) (source : Octets) (i : ℕ) → Bool
-entryStands t source i =
-    leb (getD t (4 * i) 0) 16383
-    && (leb (getD t (4 * i + 1) 0) 1 && fits source (getD t (4 * i + 2) 0) (getD t (4 * i + 3) 0))
+unfoldable pub entryStands : (source : Octets) → Entry → Bool
+entryStands source e = leb (e .number) 16383 && (leb (e .form) 1 && fits source (e .start) (e .size))
 
--- `count` of them from entry `i` on: 16 at the first that can't be
-unfoldable pub entriesFrom : (i count : ℕ) (table : List ℕ) (source : Octets) → Answer (List Parameter)
-entriesFrom i zero t source = accepted []
-entriesFrom i (suc n) t source = do
-  check (entryStands t source i) 16 i
-  ps ← entriesFrom (i + 1) n t source
-  accepted (entryOf t source i ∷ ps)
+-- the parameters of entries, the first of which is entry `i`: 16 at the first that can't be
+unfoldable pub takenFrom : (i : ℕ) (source : Octets) → List Entry → Answer (List Parameter)
+takenFrom i source [] = accepted []
+takenFrom i source (e ∷ es) = do
+  check (entryStands source e) 16 i
+  ps ← takenFrom (i + 1) source es
+  accepted (parameterOf source e ∷ ps)
+
+-- `count` of them from entry `i` on
+abbrev pub entriesFrom : (i count : ℕ) (table : List ℕ) (source : Octets) → Answer (List Parameter)
+entriesFrom i count t source = takenFrom i source (heldFrom i count t)
 
 -- ---- the component
 unfoldable pub idFits : (kind count : ℕ) → Bool
@@ -37,7 +39,7 @@ entriesOf kind id count table source = do
   check (eqb kind 0xE9 || eqb kind 0xEA) 3 0
   check (idFits kind (id .count)) 6 0
   check (leb count 64) 10 0
-  check (leb (4 * count) (length table)) 1 0
+  check (leb (width * count) (length table)) 1 0
   ps ← entriesFrom 0 count table source
   check (leb (octetsNeeded kind (id .count) ps) 4096) 15 (octetsNeeded kind (id .count) ps)
   accepted ps

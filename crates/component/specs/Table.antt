@@ -1,7 +1,7 @@
--- What the values that are handed in and out stand for: the entries of a table, four numbers for each parameter, and
+-- What the values that are handed in and out stand for: the entries of a table, five numbers for each parameter, and
 -- the ID octets.
-use Prim.Native.Nat.{ℕ, zero, suc, _+_, _*_}
-use mathlib.Core.List.{List, [], _∷_, _++_}
+use Prim.Native.Nat.{ℕ, zero, suc, _+_, _*_, _≤_}
+use mathlib.Core.List.{List, [], _∷_, _++_, map}
 use lib.ListN.{length, getD, take, drop}
 use lib.Dec.{eqb}
 use Rattle.element.specs.Octets.{Octets, if}
@@ -20,27 +20,53 @@ pub record Entry : Type 0 where
 abbrev pub next : Entry → ℕ
 next e = e .start + e .size
 
--- ---- the table: four numbers for each parameter, and what stands behind them stays
+-- ---- the table: five numbers for each parameter, and what stands behind them stays
+abbrev pub width : ℕ
+width = 5
+
+-- the numbers of a table for as many parameters as a component may have
+abbrev pub tableSize : ℕ
+tableSize = 64 * width
+
+abbrev pub numbersOf : Entry → List ℕ
+numbersOf e = e .number ∷ e .form ∷ e .start ∷ e .size ∷ e .place ∷ []
+
 unfoldable pub numbers : List Entry → List ℕ
 numbers [] = []
-numbers (e ∷ es) = e .number ∷ e .form ∷ e .start ∷ e .size ∷ numbers es
+numbers (e ∷ es) = numbersOf e ++ numbers es
 
 unfoldable pub tableWith : List Entry → List ℕ → List ℕ
 tableWith es t = numbers es ++ drop (length (numbers es)) t
 
--- ---- the entries of a table, whose contents stand in the source
-unfoldable pub entryOf : (table : List ℕ) (source : Octets) (i : ℕ) → Parameter
-entryOf t source i =
+-- ---- the entries that a table holds
+abbrev pub held : (table : List ℕ) (i : ℕ) → Entry
+held t i =
     record {
-      number = getD t (4 * i) 0;
-      form = getD t (4 * i + 1) 0;
-      content = take (getD t (4 * i + 3) 0) (drop (getD t (4 * i + 2) 0) source);
+      number = getD t (width * i) 0;
+      form = getD t (width * i + 1) 0;
+      start = getD t (width * i + 2) 0;
+      size = getD t (width * i + 3) 0;
+      place = getD t (width * i + 4) 0;
     }
+
+-- `count` of them from `i` on
+unfoldable pub heldFrom : (i count : ℕ) (table : List ℕ) → List Entry
+heldFrom i zero t = []
+heldFrom i (suc n) t = held t i ∷ heldFrom (i + 1) n t
+
+-- ---- entries whose contents stand in the source, as a writer takes them: their places are not looked at
+pub record EntryStands (source : Octets) (e : Entry) : Type 0 where
+  pub number : e .number ≤ 16383
+  pub form : e .form ≤ 1
+  pub content : e .start + e .size ≤ length source
+
+unfoldable pub parameterOf : (source : Octets) → Entry → Parameter
+parameterOf source e =
+    record { number = e .number; form = e .form; content = take (e .size) (drop (e .start) source) }
 
 -- the parameters of `count` entries from `i` on
 unfoldable pub parametersFrom : (i count : ℕ) (table : List ℕ) (source : Octets) → List Parameter
-parametersFrom i zero t source = []
-parametersFrom i (suc n) t source = entryOf t source i ∷ parametersFrom (i + 1) n t source
+parametersFrom i count t source = map (parameterOf source) (heldFrom i count t)
 
 -- ---- the outline
 -- the octets of the component ID as a value: 0 where there is none

@@ -2,6 +2,7 @@
 use super::Count;
 use super::Id;
 use super::Measured;
+use super::WIDTH;
 use element::Field;
 ghost use mathlib.Core.Path.{_≡_};
 ghost use mathlib.Core.List.{[], _∷_};
@@ -21,7 +22,7 @@ ghost use Rattle.component.specs.Composing.{
   written,
   outputAfter,
 };
-ghost use Rattle.component.specs.Table.{idOctets, parametersFrom};
+ghost use Rattle.component.specs.Table.{width, held, idOctets, parametersFrom};
 ghost use Rattle.component.specs.inner.Emitting.{
   Put,
   operationOctets,
@@ -53,7 +54,7 @@ pub fn measure(kind: u8, id: Id, count: usize, table: &[u16], source: &[u8]) -> 
                 detail: 0,
             };
         }
-        if table.len() < 4 * count {
+        if table.len() < WIDTH * count {
             return Measured::Refused {
                 number: 1,
                 detail: 0,
@@ -130,19 +131,20 @@ fn whole_size(kind: u8, octets: u8, set: usize) -> Measured
 
 // Whether an entry is one of a parameter whose contents stand in the source.
 fn entry_stands(i: usize, table: &[u16], source: &[u8]) -> bool
-    requires { ⌜ (i < 64) × (4 * i + 3 < length (now table)) ⌝ }
-    ensures { λ r. ⌜ r ≡ entryStands (now (table .entry)) (now (source .entry)) i ⌝ }
+    requires { ⌜ (i < 64) × (width * i + 3 < length (now table)) ⌝ }
+    ensures { λ r. ⌜ r ≡ entryStands (now (source .entry)) (held (now (table .entry)) i) ⌝ }
 {
-    if 16383 < table[4 * i] {
+    if 16383 < table[WIDTH * i] {
         return false;
     }
-    if 1 < table[4 * i + 1] {
+    if 1 < table[WIDTH * i + 1] {
         return false;
     }
-    wide(table[4 * i + 2]) + wide(table[4 * i + 3]) <= source.len()
+    wide(table[WIDTH * i + 2]) + wide(table[WIDTH * i + 3]) <= source.len()
 }
 
-// A parameter: most have one octet of identifier and one of length, so that is asked first.
+// A parameter: most have one octet of identifier and one of length, so that is asked first. Longer contents behind one
+// octet have an answer of their own: the compiler would else ask both questions of each.
 fn parameter_size(number: u16, size: u16) -> usize
     ensures { λ r. ⌜ (r ≡ elementSize (identifierSize number) size) × (r ≤ 65542) ⌝ }
 {
@@ -150,13 +152,14 @@ fn parameter_size(number: u16, size: u16) -> usize
         if size < 128 {
             return 2 + wide(size);
         }
+        return element_size(1, wide(size));
     }
     element_size(element::identifier_size(number), wide(size))
 }
 
 // The parameters: 16 at the first entry that does not stand.
 fn set_size(count: usize, table: &[u16], source: &[u8]) -> Count
-    requires { ⌜ (count ≤ 64) × (4 * count ≤ length (now table)) ⌝ }
+    requires { ⌜ (count ≤ 64) × (width * count ≤ length (now table)) ⌝ }
     ensures { λ r. ⌜ (countIn r ≡ sized (entriesFrom 0 count (now (table .entry)) (now (source .entry))))
         × atMost 4194688 r ⌝ }
 {
@@ -167,7 +170,7 @@ fn set_size(count: usize, table: &[u16], source: &[u8]) -> Count
             break 'entries Count::Of(sum);
         }
         if entry_stands(i, table, source) {
-            sum = sum + parameter_size(table[4 * i], table[4 * i + 3]);
+            sum = sum + parameter_size(table[WIDTH * i], table[WIDTH * i + 3]);
             i = i + 1;
         } else {
             break 'entries Count::Refused {
@@ -353,7 +356,7 @@ fn put_parameter(
 }
 
 fn put_parameters(count: usize, table: &[u16], source: &[u8], out: &mut [u8], at: usize) -> usize
-    requires { ⌜ (count ≤ 64) × (4 * count ≤ length (now table)) × AllStand count (now table) (now source)
+    requires { ⌜ (count ≤ 64) × (width * count ≤ length (now table)) × AllStand count (now table) (now source)
         × (at + length (setOf (parametersFrom 0 count (now table) (now source))) ≤ length (now out)) ⌝ }
     ensures { λ r. ⌜ Put (setOf (parametersFrom 0 count (now (table .entry)) (now (source .entry)))) at
         (now (out .entry)) r (now (out .exit)) ⌝ }
@@ -361,11 +364,11 @@ fn put_parameters(count: usize, table: &[u16], source: &[u8], out: &mut [u8], at
     let mut i: usize = 0;
     let mut next = at;
     'entries: while i < count {
-        let start = wide(table[4 * i + 2]);
-        let size = wide(table[4 * i + 3]);
+        let start = wide(table[WIDTH * i + 2]);
+        let size = wide(table[WIDTH * i + 3]);
         next = put_parameter(
-            table[4 * i],
-            table[4 * i + 1],
+            table[WIDTH * i],
+            table[WIDTH * i + 1],
             start,
             size,
             source,

@@ -9,6 +9,12 @@ pub use reading::parameter_from;
 pub use reading::part;
 pub use reading::part_fits;
 
+// The numbers of an entry of a table: number, form, start and length of the contents, and place of the identifier.
+pub const WIDTH: usize = 5;
+
+// The numbers of a table for as many parameters as a component may have.
+pub const TABLE: usize = 64 * WIDTH;
+
 // The octets of a component ID: `count` of them, and 0 where there is none.
 pub struct Id {
     pub count: u8,

@@ -6,6 +6,7 @@ use lib.ListN.{length, getD, drop}
 use lib.Dec.{eqb, ltb, leb}
 use Rattle.element.specs.Octets.{Octets, if}
 use Rattle.element.specs.Field.{put}
+use Rattle.component.specs.Table.{tableSize}
 use Rattle.operation.specs.Reading.{reading, tableAfter}
 use Rattle.operation.specs.Told.{told}
 use Rattle.lines.specs.declared.Field as F
@@ -113,4 +114,4 @@ abbrev pub cutLine : Octets
 cutLine = 0x63 ∷ 0x75 ∷ 0x74 ∷ 0x0A ∷ []
 
 unfoldable pub printed : (input : Octets) → Octets
-printed s = headerLine ++ listing 256 start (inputOf s .fields) ++ if (inputOf s .cut) cutLine []
+printed s = headerLine ++ listing tableSize start (inputOf s .fields) ++ if (inputOf s .cut) cutLine []

@@ -7,7 +7,7 @@ fn main() {
         return;
     }
     let mut component = [0u8; 4097];
-    let mut table = [0u16; 256];
+    let mut table = [0u16; component::TABLE];
     if fields::list(STDIN_FILENO, STDOUT_FILENO, &mut component, &mut table) {
         fields::close(STDOUT_FILENO);
     }

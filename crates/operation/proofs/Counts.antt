@@ -11,7 +11,7 @@ use Rattle.component.specs.declared.Id as D
 use Rattle.component.specs.Layout.{Layout, layoutOf, specifierIn}
 use Rattle.component.specs.Grammar.{Parameter}
 use Rattle.component.specs.Composing.{entriesOf, octetsOf, written}
-use Rattle.component.specs.Table.{componentOf}
+use Rattle.component.specs.Table.{tableSize, componentOf}
 use Rattle.component.specs.Needed.{octetsNeeded}
 use Rattle.component.specs.Composed.{composed}
 use Rattle.component.proofs.Laying.{ordered}
@@ -26,7 +26,7 @@ use Rattle.operation.specs.Items.{itemOf, itemsOf}
 use Rattle.operation.specs.Caller.{Told}
 use Rattle.operation.specs.Told.{told}
 use Rattle.operation.specs.Writing.{writing}
-use Rattle.operation.proofs.Reached.{all-counted}
+use Rattle.operation.proofs.Places.{all-counted}
 
 inner : {A : Type 0} {x y : A} → accepted x ≡ accepted y → x ≡ y
 inner e = cc
@@ -38,7 +38,7 @@ module _ (s : Octets) (given room : ℕ) (o : AreOctets s) where
   few-shown : {x : Shown} → reading s given room ≡ accepted x → (length (x .entries) ≤ 64) × (x .named + x .other ≡ length (x .entries))
   unfolding readingAt shownOf
   few-shown e =
-      let (_, f) = passed (leb 256 room) 1 0 e in
+      let (_, f) = passed (leb tableSize room) 1 0 e in
       let (l, g, h) = taken (layoutOf s) f in
       let (row, _, k) = taken (rowOf (l .head .kind) (specifierIn s l given) (l .head .operation)) h in
       let (_, _, m) = taken (judge row (map itemOf (l .entries))) k in

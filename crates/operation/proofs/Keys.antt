@@ -8,7 +8,7 @@ use Rattle.element.specs.Octets.{Octets, if}
 use Rattle.element.specs.Answer.{accepted}
 use Rattle.component.specs.Table.{Entry}
 use Rattle.component.specs.Grammar.{Parameter}
-use Rattle.component.proofs.Shown.{Shows, Pairwise, none, more}
+use Rattle.component.specs.Standing.{Shows, Pairwise, none, more}
 use Rattle.operation.specs.Row.{Row, Item, named}
 use Rattle.operation.specs.Judge.{judge, countNamed}
 use Rattle.operation.specs.Book.{Fits}

@@ -7,7 +7,7 @@ use native.Mathlib.Omega.{arith}
 use Rattle.element.specs.Octets.{Octets}
 use Rattle.component.specs.Table.{Entry}
 use Rattle.component.specs.Grammar.{Parameter}
-use Rattle.component.proofs.Shown.{Shows, Pairwise, none, more}
+use Rattle.component.specs.Standing.{Shows, Pairwise, none, more}
 use Rattle.operation.specs.Row.{Row, Item}
 use Rattle.operation.specs.Judge.{judge, remark, pointed}
 use Rattle.operation.proofs.Newcomers as N

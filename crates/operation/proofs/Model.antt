@@ -3,7 +3,7 @@ use Prim.Native.Nat.{ℕ, zero, suc, _+_, _*_, _<_, _≤_}
 use mathlib.Core.Path.{_≡_, refl, sym, ap, ap₂, _∙_}
 use mathlib.Core.List.{List, _++_, map}
 use mathlib.Core.Logic.{_⊎_, inl, inr, ⊎-elim}
-use lib.ListN.{length, getD, take, drop}
+use lib.ListN.{length, take, drop}
 use lib.Seq.{take-append-seam}
 use native.Mathlib.Decide.{decLt, decLe, ℕ-discrete}
 use native.Mathlib.Omega.{arith}
@@ -12,17 +12,17 @@ use Rattle.element.specs.Answer.{Answer, accepted, refused}
 use Rattle.component.specs.Layout.{Layout, layoutOf, specifierIn}
 use Rattle.component.specs.Grammar.{Laid, Component, parametersOf, kindOf, identifierOf, specifierOf}
 use Rattle.component.specs.Faults.{Typed, Allowed}
-use Rattle.component.specs.Standing.{standing}
-use Rattle.component.specs.Table.{parametersFrom, idOf, tableWith}
+use Rattle.component.specs.Standing.{Shows, Pairwise, standing}
+use Rattle.component.specs.Table.{width, tableSize, tableWith, held, heldFrom, parametersFrom, idOf}
 use Rattle.component.specs.Composing.{written, outputAfter}
 use Rattle.component.proofs.Ends.{Ends, gives, given as Ends·given, stopped, then, at-most}
 use Rattle.component.proofs.Asking.{answered}
 use Rattle.component.proofs.Taken.{taken}
 use Rattle.component.proofs.Making.{Makes, makes, entries-again, octets-again}
 use Rattle.component.proofs.Composes.{composes, is-composed, laid-composable}
-use Rattle.component.proofs.Entries.{as-many, table-shown}
-use Rattle.component.proofs.Complete.{Reads, complete}
-use Rattle.component.proofs.Emission.{listed}
+use Rattle.component.proofs.Entries.{as-many, holds, shown-are}
+use Rattle.component.proofs.Shown.{standing-show}
+use Rattle.component.proofs.Complete.{Reads}
 use Rattle.component.proofs.Deciding.{ask, decTyped}
 use Rattle.component.proofs.OneFault.{laid-out, faulty}
 use Rattle.operation.specs.Row.{Row}
@@ -33,7 +33,7 @@ use Rattle.operation.specs.Items.{itemOf, itemsOf}
 use Rattle.operation.specs.Writing.{writing}
 use Rattle.operation.specs.Caller.{wrote, Told, Order}
 use Rattle.operation.specs.Told.{told}
-use Rattle.operation.specs.Demands.{octetsFor, ReadAgain, RowFor, ReaderRefuses, Right, tells, EntryStands, ordered, needed, made, Held, Ready, WriterRefuses, Writable, Demand1, Demand2}
+use Rattle.operation.specs.Demands.{octetsFor, ReadAgain, RowFor, ReaderRefuses, Right, tells, Stands, ordered, needed, made, Held, Ready, WriterRefuses, Writable, Demand1, Demand2}
 use Rattle.operation.specs.Model.{reader, writer, written-as}
 use Rattle.operation.proofs.Readings.{either-row, row-ends}
 use Rattle.operation.proofs.RowsFound.{has-row, its-row, has-none}
@@ -55,7 +55,7 @@ module _ (s : Octets) (o : AreOctets s) where
     unfolding readingAt shownOf
     reader-ends =
         let Q = ReaderRefuses s given t in
-        at-most Q ReaderRefuses.table λ (enough : 256 ≤ length t).
+        at-most Q ReaderRefuses.table λ (enough : tableSize ≤ length t).
         then (answered Q (layoutOf s) λ n d e. ReaderRefuses.fault enough (faulty s o e)) λ l e.
         let (c, h, q) = laid-out s o e in
         then (row-ends Q (l .head .kind) (specifierIn s l given) (l .head .operation) λ f. rw (q .operation) (ReaderRefuses.no-row enough h (has-none _ _ (same-row given q f)))) λ row r.
@@ -84,28 +84,35 @@ module _ (s : Octets) (o : AreOctets s) where
         given-right : {x : Shown} → reading s given (length t) ≡ accepted x → Rightly x
         given-right f = Ends·given reader-ends f
 
+    places : {c : Component} {row : Row} → Right s given t c row →
+        Pairwise (Shows s) (heldFrom 0 (length (parametersOf c)) (reader s given t .table)) (parametersOf c)
+    places r =
+        let shows = standing-show (r .laid-out .laid) in
+        rw (ap (λ x. x .table) (reader-accepts s o given t r), ← as-many shows, holds _ t) shows
+
 -- ---- the writer: each question of its list, and what follows
 decAllowed : (kind size : ℕ) → Typed kind → Dec (Allowed kind size)
 decAllowed kind size (inl e) = ask (decLe size 2) (λ h. yes (inl (e, h))) λ n. no (⊎-elim (λ (_, h). n h) (λ (f, _). omega arith))
 decAllowed kind size (inr e) = ask (ℕ-discrete size 1) (λ h. yes (inr (e, h))) λ n. no (⊎-elim (λ (f, _). omega arith) (λ (_, h). n h))
 
 module _ (o : Order) where
-  decEntry : (i : ℕ) → Dec (EntryStands o i)
+  decEntry : (i : ℕ) → Dec (Stands o i)
   decEntry i =
-      ask (decLe (getD (o .table) (4 * i) 0) 16383) (λ a.
-      ask (decLe (getD (o .table) (4 * i + 1) 0) 1) (λ b.
-      ask (decLe (getD (o .table) (4 * i + 2) 0 + getD (o .table) (4 * i + 3) 0) (length (o .source))) (λ c.
+      let e = held (o .table) i in
+      ask (decLe (e .number) 16383) (λ a.
+      ask (decLe (e .form) 1) (λ b.
+      ask (decLe (e .start + e .size) (length (o .source))) (λ c.
       yes (record { number = a; form = b; content = c })) λ n. no λ h. n (h .content)) λ n. no λ h. n (h .form)) λ n. no λ h. n (h .number)
 
   -- the entries below `n` stand, or one is the lowest that does not
   abbrev Lowest : ℕ → Type 0
-  Lowest n = ((i : ℕ) → i < n → EntryStands o i) ⊎ ((i : ℕ) × (i < n) × ((j : ℕ) → j < i → EntryStands o j) × (EntryStands o i → ⊥))
+  Lowest n = ((i : ℕ) → i < n → Stands o i) ⊎ ((i : ℕ) × (i < n) × ((j : ℕ) → j < i → Stands o j) × (Stands o i → ⊥))
 
   lowest : (n : ℕ) → Lowest n
   lowest zero = inl λ i h. absurd (omega arith)
   lowest (suc n) = go (lowest n)
     where
-      below : ((i : ℕ) → i < n → EntryStands o i) → EntryStands o n → (i : ℕ) → Dec (i < n) → i < suc n → EntryStands o i
+      below : ((i : ℕ) → i < n → Stands o i) → Stands o n → (i : ℕ) → Dec (i < n) → i < suc n → Stands o i
       below h e i (yes k) l = h i k
       below h e i (no k) l = let p : n ≡ i = omega arith in rw p at e
 
@@ -140,7 +147,7 @@ module _ (o : Order) where
         ask (decTyped (o .kind)) (λ typed.
         ask (decAllowed (o .kind) (o .id .count) typed) (λ allowed.
         ask (decLe (o .count) 64) (λ few.
-        ask (decLe (4 * o .count) (length (o .table))) (λ table.
+        ask (decLe (width * o .count) (length (o .table))) (λ table.
         held-or-not (record { allowed = allowed; few = few; table = table }))
         (λ n. inr (1, 0, WriterRefuses.no-table allowed few (omega arith))))
         (λ n. inr (10, 0, WriterRefuses.too-many allowed (omega arith))))
@@ -186,8 +193,7 @@ module _ (s : Octets) (given : ℕ) (t : List ℕ) (out : Octets) {c : Component
       let l = r .laid-out in
       let composable = laid-composable (l .laid) (l .within) in
       let e = is-composed (l .laid) in
-      let (_, _, z) = complete (l .laid) (l .within) (l .few) in
-      let shows = rw (z .entries) at (z .outlines .shows) in
+      let shows = standing-show (l .laid) in
       rw (
         ← as-many shows,
         entries-again c composable (l .few) shows t,
@@ -212,7 +218,7 @@ reads-then-writes s given t out o e h =
     handed-back s given t out r h (inner (sym (ap (λ x. x .answer) p) ∙ e)) (ap (λ x. x .table) p)
 
 pub counted : (i n : ℕ) (t : List ℕ) (s : Octets) → length (parametersFrom i n t s) ≡ n
-unfolding parametersFrom
+unfolding parametersFrom heldFrom
 counted i zero t s = refl
 counted i (suc n) t s = ap suc (counted (i + 1) n t s)
 
@@ -225,7 +231,7 @@ module _ (o : Order) (out : Octets) where
   whole = octetsFor o
 
   -- what was written is right
-  written-right : o .specifier < 256 → {row : Row} → Writable o out row → (t : List ℕ) → 256 ≤ length t →
+  written-right : o .specifier < 256 → {row : Row} → Writable o out row → (t : List ℕ) → tableSize ≤ length t →
       Makes (o .kind) (o .id) (o .specifier) (ordered o) (made o) × Right whole (o .specifier) t (made o) row
   written-right h {row} w t k =
       let (m, _, few) = makes (o .kind) (o .id) (o .specifier) (ordered o) (o .count) (o .table) (o .source) h (ready o (w .ready)) in (
@@ -239,18 +245,13 @@ module _ (o : Order) (out : Octets) where
       )
 
   -- and read again
-  read-whole : o .specifier < 256 → {row : Row} → Writable o out row → (t : List ℕ) → 256 ≤ length t → AreOctets whole → ReadAgain reader o whole t
+  read-whole : o .specifier < 256 → {row : Row} → Writable o out row → (t : List ℕ) → tableSize ≤ length t → AreOctets whole → ReadAgain reader o whole t
+  unfolding parametersFrom
   read-whole h {row} w t k b =
       let (m, r) = written-right h w t k in
       let p = reader-accepts whole b (o .specifier) t r in
       let q = ap (λ x. x .table) p in
-      let l = r .laid-out in
-      let (y, e, z) = complete (l .laid) (l .within) (l .few) in
-      let composable = laid-composable (l .laid) (l .within) in
-      let shows = rw (z .entries) at (z .outlines .shows) in
-      let (_, f) = table-shown shows (composable .identified) t in
-      let g = sym (listed _ _ 0 _ f) in
-      let n = as-many shows in
+      let shows = standing-show (r .laid-out .laid) in
       let c = counted 0 (o .count) (o .table) (o .source) in
       record {
         told = tells (o .specifier) (made o) row;
@@ -259,10 +260,10 @@ module _ (o : Order) (out : Octets) where
         id = ap idOf (m .id-is);
         specifier = m .specifier-is;
         count = ap length (m .parameters-are) ∙ c;
-        parameters = rw (q, ← n) (g ∙ m .parameters-are);
+        parameters = rw (q, ← as-many shows, holds _ t) (shown-are whole shows ∙ m .parameters-are);
       }
 
-writes-then-reads : (o : Order) (out : Octets) (t : List ℕ) {n : ℕ} → o .specifier < 256 → writer o out .answer ≡ accepted n → 256 ≤ length t →
+writes-then-reads : (o : Order) (out : Octets) (t : List ℕ) {n : ℕ} → o .specifier < 256 → writer o out .answer ≡ accepted n → tableSize ≤ length t →
     AreOctets (take n (writer o out .output)) → ReadAgain reader o (take n (writer o out .output)) t
 unfolding written outputAfter
 writes-then-reads o out t {n} h e k b =
@@ -277,6 +278,7 @@ demand2-ours =
     record {
       reader = λ s given t o e. accepts-rightly s o given t e;
       shown = λ s given t o r. reader-accepts s o given t r;
+      placed = λ s given t o r. places s o given t r;
       writer = λ o out e. writes-accepting o out e;
       written = λ o out w. writes-well o out w;
       read-then-write = reads-then-writes;

@@ -1,12 +1,12 @@
 -- Whatever satisfies the demands gives what ours gives: each refusal and each acceptance that they allow is the one that ours has.
-use Prim.Native.Nat.{ℕ, zero, suc, _+_, _*_, _<_, _≤_}
+use Prim.Native.Nat.{ℕ, zero, suc, _+_, _<_, _≤_}
 use mathlib.Core.Path.{_≡_, refl, sym, ap, ap₂, _∙_}
-use mathlib.Core.Bool.{Bool, true, false, _||_, _&&_}
+use mathlib.Core.Bool.{true, false, _||_}
 use mathlib.Core.List.{List, map}
 use mathlib.Core.Logic.{inl, inr, ⊎-elim}
-use lib.ListN.{length, getD}
+use lib.ListN.{length}
 use lib.Dec.{leb, eqb}
-use borrow.Author.Tests.{le-leb, lt-leb, leb-true, eq-eqb, ne-eqb}
+use borrow.Author.Tests.{le-leb, lt-leb, eq-eqb, ne-eqb}
 use native.Mathlib.Decide.{decLt}
 use native.Mathlib.Omega.{arith}
 use Rattle.element.specs.Octets.{Octets, AreOctets}
@@ -16,12 +16,11 @@ use Rattle.component.specs.Grammar.{Parameter, Component, kindOf, specifierOf}
 use Rattle.component.specs.Faults.{LaidOut, Typed, Allowed}
 use Rattle.component.specs.Standing.{standing, specifierPlace}
 use Rattle.component.specs.Composed.{composed}
-use Rattle.component.specs.Table.{parametersFrom, tableWith}
-use Rattle.component.specs.Part.{fits}
-use Rattle.component.specs.Composing.{entryStands, entriesFrom, entriesOf, idFits, octetsOf, written, outputAfter}
+use Rattle.component.specs.Table.{tableSize, tableWith, heldFrom, parametersFrom}
+use Rattle.component.specs.Composing.{takenFrom, entriesFrom, entriesOf, idFits, octetsOf, written, outputAfter}
 use Rattle.component.specs.Needed.{octetsNeeded}
 use Rattle.component.proofs.Complete.{Reads, complete}
-use Rattle.component.proofs.Entries.{as-many}
+use Rattle.component.proofs.Entries.{stands-true, stands-false, as-many}
 use Rattle.component.proofs.Refusing.{refuses}
 use Rattle.operation.specs.Row.{Row}
 use Rattle.operation.specs.Finding.{rowOf}
@@ -31,7 +30,7 @@ use Rattle.operation.specs.Reading.{reading, readingAt, tableAfter}
 use Rattle.operation.specs.Writing.{writing}
 use Rattle.operation.specs.Caller.{read, wrote, Told, Reader, Order, Writer}
 use Rattle.operation.specs.Told.{told}
-use Rattle.operation.specs.Demands.{ReaderRefuses, Right, tells, EntryStands, ordered, made, Held, Ready, WriterRefuses, Writable, Demand1, Demand2}
+use Rattle.operation.specs.Demands.{ReaderRefuses, Right, tells, Stands, ordered, made, Held, Ready, WriterRefuses, Writable, Demand1, Demand2}
 use Rattle.operation.specs.Model.{reader, writer, written-as, OnlyOne}
 use Rattle.operation.proofs.Readings.{either-row, anywhere, reads, no-row}
 use Rattle.operation.proofs.RowsFound.{its-row, no-row-found}
@@ -46,7 +45,7 @@ nowhere kind specifier e at =
 -- ---- the reader
 module _ (s : Octets) (o : AreOctets s) (given : ℕ) (t : List ℕ) where
   -- a component laid out, as ours reads it
-  module _ {c : Component} (enough : 256 ≤ length t) (h : LaidOut c s) where
+  module _ {c : Component} (enough : tableSize ≤ length t) (h : LaidOut c s) where
     its-layout : (l : Layout) × (layoutOf s ≡ accepted l) × Reads (h .laid) l
     its-layout = complete (h .laid) (h .within) (h .few)
 
@@ -65,8 +64,8 @@ module _ (s : Octets) (o : AreOctets s) (given : ℕ) (t : List ℕ) where
 
   pub reader-refuses : {n d : ℕ} → ReaderRefuses s given t n d → reading s given (length t) ≡ refused n d
   unfolding readingAt
-  reader-refuses (ReaderRefuses.table h) = rw (lt-leb 256 (length t) h)
-  reader-refuses (ReaderRefuses.fault h f) = rw (le-leb 256 (length t) h, refuses o f)
+  reader-refuses (ReaderRefuses.table h) = rw (lt-leb tableSize (length t) h)
+  reader-refuses (ReaderRefuses.fault h f) = rw (le-leb tableSize (length t) h, refuses o f)
   reader-refuses (ReaderRefuses.no-row h l e) = rowless h l (no-row-found _ _ e)
   reader-refuses (ReaderRefuses.misfit h l e f) = misfits h l (its-row _ _ _ e) f
 
@@ -94,42 +93,22 @@ not-le {n} {m} h = go (decLt m n)
     go (no k) = absurd (h (omega arith))
 
 -- ---- the writer
--- the test of an entry says whether it stands
 module _ (o : Order) where
-  abbrev stands : ℕ → Bool
-  stands i = entryStands (o .table) (o .source) i
-
-  stands-true : (i : ℕ) → EntryStands o i → stands i ≡ true
-  unfolding entryStands fits
-  stands-true i h = rw (le-leb _ _ (h .number), le-leb _ _ (h .form), le-leb _ _ (h .content))
-
-  stands-false : (i : ℕ) → (EntryStands o i → ⊥) → stands i ≡ false
-  unfolding entryStands fits
-  stands-false i h = go (leb (getD (o .table) (4 * i) 0) 16383) (leb (getD (o .table) (4 * i + 1) 0) 1)
-      (leb (getD (o .table) (4 * i + 2) 0 + getD (o .table) (4 * i + 3) 0) (length (o .source))) refl refl refl
-    where
-      go : (a b c : Bool) → leb (getD (o .table) (4 * i) 0) 16383 ≡ a → leb (getD (o .table) (4 * i + 1) 0) 1 ≡ b →
-          leb (getD (o .table) (4 * i + 2) 0 + getD (o .table) (4 * i + 3) 0) (length (o .source)) ≡ c → (a && (b && c)) ≡ false
-      go true true true p q r = absurd (h (record { number = leb-true _ _ p; form = leb-true _ _ q; content = leb-true _ _ r }))
-      go true true false p q r = refl
-      go true false c p q r = refl
-      go false b c p q r = refl
-
-  entries-all : (i n : ℕ) → ((j : ℕ) → j < i + n → i ≤ j → EntryStands o j) →
+  entries-all : (i n : ℕ) → ((j : ℕ) → j < i + n → i ≤ j → Stands o j) →
       entriesFrom i n (o .table) (o .source) ≡ accepted (parametersFrom i n (o .table) (o .source))
-  unfolding entriesFrom parametersFrom
+  unfolding takenFrom heldFrom parametersFrom
   entries-all i zero h = refl
-  entries-all i (suc n) h = rw (stands-true i (h i (omega arith) (omega arith)), entries-all (i + 1) n (λ j k l. h j (omega arith) (omega arith)))
+  entries-all i (suc n) h = rw (stands-true (h i (omega arith) (omega arith)), entries-all (i + 1) n (λ j k l. h j (omega arith) (omega arith)))
 
-  entries-first : (i n : ℕ) {bad : ℕ} → i ≤ bad → bad < i + n → ((j : ℕ) → j < bad → EntryStands o j) → (EntryStands o bad → ⊥) →
+  entries-first : (i n : ℕ) {bad : ℕ} → i ≤ bad → bad < i + n → ((j : ℕ) → j < bad → Stands o j) → (Stands o bad → ⊥) →
       entriesFrom i n (o .table) (o .source) ≡ refused 16 bad
-  unfolding entriesFrom
+  unfolding takenFrom heldFrom
   entries-first i zero h k s b = absurd (omega arith)
   entries-first i (suc n) {bad} h k s b = go (decLt i bad) (λ l. entries-first (i + 1) n (omega arith) (omega arith) s b)
     where
       go : Dec (i < bad) → (i < bad → entriesFrom (i + 1) n (o .table) (o .source) ≡ refused 16 bad) → entriesFrom i (suc n) (o .table) (o .source) ≡ refused 16 bad
-      go (yes l) later = rw (stands-true i (s i l), later l)
-      go (no l) later = let e : bad ≡ i = omega arith in rw (stands-false i (rw e at b)) (ap (λ k. refused 16 k) (sym e))
+      go (yes l) later = rw (stands-true (s i l), later l)
+      go (no l) later = let e : bad ≡ i = omega arith in rw (stands-false (rw e at b)) (ap (λ k. refused 16 k) (sym e))
 
 module _ (o : Order) where
   known : Typed (o .kind) → (eqb (o .kind) 0xE9 || eqb (o .kind) 0xEA) ≡ true
@@ -163,7 +142,7 @@ module _ (o : Order) where
     unfolding entriesOf
     held e = rw (known (typed (h .allowed)), id-fits (h .allowed), le-leb _ _ (h .few), le-leb _ _ (h .table), e)
 
-  all-stand : ((i : ℕ) → i < o .count → EntryStands o i) → entriesFrom 0 (o .count) (o .table) (o .source) ≡ accepted (ordered o)
+  all-stand : ((i : ℕ) → i < o .count → Stands o i) → entriesFrom 0 (o .count) (o .table) (o .source) ≡ accepted (ordered o)
   all-stand h = entries-all o 0 (o .count) (λ j k _. h j (omega arith))
 
   pub ready : Ready o → entries ≡ accepted (ordered o)

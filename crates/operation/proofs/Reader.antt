@@ -11,7 +11,7 @@ use Rattle.component.specs.declared.Heading as G
 use Rattle.component.specs.declared.Count.the-variants as CV
 use Rattle.component.specs.Layout.{parameters, Layout, layoutAt, specifierIn}
 use Rattle.component.specs.Outline.{headingOf, headingsAt}
-use Rattle.component.specs.Table.{tableWith}
+use Rattle.component.specs.Table.{tableSize, tableWith}
 use Rattle.component.proofs.Laying.{ordered, laid, not-laid, no-head}
 use Rattle.operation.specs.declared.Judged as J
 use Rattle.operation.specs.inner.Coded.{itemsFrom, verdict, judgedIn}
@@ -21,7 +21,8 @@ use Rattle.operation.specs.Told.{told}
 use Rattle.operation.specs.inner.Sheet.{Walked}
 use Rattle.operation.specs.inner.Finishing.{specifierFor, Pointing, finished, tableFinished}
 use Rattle.operation.proofs.Readings.{laid-reads}
-use Rattle.operation.proofs.Reached.{own, answers, tables, pointing}
+use Rattle.operation.proofs.Reached.{own, answers, tables}
+use Rattle.operation.proofs.Places.{pointing}
 
 abbrev Outcome : (a : Answer Shown) (t : List ℕ) (said : Answer Told) (after : List ℕ) → Type 0
 Outcome a t said after = (said ≡ told a) × (after ≡ tableAfter t a)
@@ -34,14 +35,14 @@ module _ (s : Octets) (from given : ℕ) (t : List ℕ) where
   abbrev answer : Answer Shown
   answer = readingAt s from given (length t)
 
-  pub too-short : length t < 256 → Outcome answer t (refused 1 0) t
+  pub too-short : length t < tableSize → Outcome answer t (refused 1 0) t
   unfolding readingAt
-  too-short h = unchanged t (simp (lt-leb 256 (length t) h))
+  too-short h = unchanged t (simp (lt-leb tableSize (length t) h))
 
-  module _ (o : AreOctets s) (long : 256 ≤ length t) where
+  module _ (o : AreOctets s) (long : tableSize ≤ length t) where
     not-laid-out : {n d : ℕ} → layoutAt s from ≡ refused n d → Outcome answer t (refused n d) t
     unfolding readingAt
-    not-laid-out e = unchanged t (simp (le-leb 256 (length t), e))
+    not-laid-out e = unchanged t (simp (le-leb tableSize (length t), e))
 
     pub headless : {n d : ℕ} → refused n d ≡ headingsAt s from → Outcome answer t (refused n d) t
     headless e = not-laid-out (no-head s o from e)
@@ -58,27 +59,25 @@ module _ (s : Octets) (from given : ℕ) (t : List ℕ) where
             let (l, f, a, b) = laid s o from e es p in
             (l, f, a, n ∙ ap length b, q ∙ ap (λ es. tableWith es z) b)
 
-        pub bounds : (count ≤ 64) × (g .operation ≤ 4096) × (g .set ≤ 4096)
+        pub bounds : (count ≤ 64) × (g .operation ≤ 4096)
         unfolding headingOf
         bounds =
             let (l, f, a, n, _) = held in
             let w = ordered s o from f in
-            let r : g .set ≡ l .head .set .start = ap (λ (h : G.Heading). h .set) a in
             let p : g .operation ≡ l .head .operation = ap (λ (h : G.Heading). h .operation) a in
-            (omega arith, omega arith, omega arith)
+            (omega arith, omega arith)
 
         module _ {specifier : ℕ} (w : specifier ≡ specifierFor g given) (j : J.Judged) (q : judgedIn j ≡ verdict (g .kind) specifier (itemsFrom sheet 0 count)) where
           same : (l : Layout) → layoutAt s from ≡ accepted l → g ≡ headingOf s (l .head) → count ≡ length (l .entries) → sheet ≡ tableWith (l .entries) z →
               Pointing count j × Outcome answer t (finished g specifier count sheet (judgedIn j)) (tableFinished count sheet t (judgedIn j))
           unfolding headingOf
           same l f a b c =
-              let i = ordered s o from f in
-              let d : specifier ≡ specifierIn s l given = w ∙ ap (λ h. specifierFor h given) a ∙ own s given z i in
+              let d : specifier ≡ specifierIn s l given = w ∙ ap (λ h. specifierFor h given) a ∙ own s given z l in
               let k : g .kind ≡ l .head .kind = ap (λ (h : G.Heading). h .kind) a in
               let v : judgedIn j ≡ verdict (l .head .kind) (specifierIn s l given) (itemsFrom (tableWith (l .entries) z) 0 (length (l .entries))) = q ∙ rw (k, d, c, b) in
               let r = laid-reads s from given (length t) long f in (
-                rw b (pointing s given z i j v),
-                (rw (r, v, a, b, c, d) (answers s given z i), rw (r, v, b, c) (tables s given z i t)),
+                rw b (pointing (l .head .kind) (specifierIn s l given) (length (l .entries)) (tableWith (l .entries) z) (omega arith) j v),
+                (rw (r, v, a, b, c, d) (answers s given z l), rw (r, v, b, c) (tables s given z l t)),
               )
 
           pub reached : Pointing count j × Outcome answer t (finished g specifier count sheet (judgedIn j)) (tableFinished count sheet t (judgedIn j))

@@ -10,6 +10,7 @@ use borrow.Author.Tests.{le-leb, lt-ltb, lt-leb}
 use native.Mathlib.Omega.{arith}
 use Rattle.element.specs.Octets.{Octets, if}
 use Rattle.element.specs.Answer.{Answer, accepted, refused, _>>_, check}
+use Rattle.component.specs.Table.{tableSize}
 use Rattle.component.specs.Layout.{headAt, Layout, layoutFrom, layoutAt, layoutOf, specifierIn}
 use Rattle.component.proofs.Ends.{Ends, gives, stops}
 use Rattle.operation.specs.Row.{Row}
@@ -57,16 +58,16 @@ module _ (s : Octets) (given : ℕ) (l : Layout) where
   unfolding shownOf
   not-shown f = simp f
 
-pub laid-reads : (s : Octets) (from given room : ℕ) {l : Layout} → 256 ≤ room → layoutAt s from ≡ accepted l → readingAt s from given room ≡ shownOf s given l
+pub laid-reads : (s : Octets) (from given room : ℕ) {l : Layout} → tableSize ≤ room → layoutAt s from ≡ accepted l → readingAt s from given room ≡ shownOf s given l
 unfolding readingAt
-laid-reads s from given room h e = simp (le-leb 256 room, e)
+laid-reads s from given room h e = simp (le-leb tableSize room, e)
 
 -- where 1 and 2 are not the answer
-pub within : (s : Octets) (from given room : ℕ) → 256 ≤ room → from < length s → length s ≤ 4096 → readingAt s from given room ≡ readingFrom s from given
+pub within : (s : Octets) (from given room : ℕ) → tableSize ≤ room → from < length s → length s ≤ 4096 → readingAt s from given room ≡ readingFrom s from given
 unfolding readingAt readingFrom layoutAt layoutFrom headAt
-within s from given room h k m = simp (le-leb 256 room, lt-ltb from (length s), le-leb (length s) 4096)
+within s from given room h k m = simp (le-leb tableSize room, lt-ltb from (length s), le-leb (length s) 4096)
 
-module _ (s : Octets) (given room : ℕ) {l : Layout} (h : 256 ≤ room) (e : layoutOf s ≡ accepted l) where
+module _ (s : Octets) (given room : ℕ) {l : Layout} (h : tableSize ≤ room) (e : layoutOf s ≡ accepted l) where
   pub reads : {row : Row} → rowOf (l .head .kind) (specifierIn s l given) (l .head .operation) ≡ accepted row →
       reading s given room ≡ (judge row (map itemOf (l .entries)) >> accepted (shownBy s l given row))
   reads f = laid-reads s 0 given room h e ∙ shown-by s given l f
@@ -75,6 +76,6 @@ module _ (s : Octets) (given room : ℕ) {l : Layout} (h : 256 ≤ room) (e : la
   no-row f = laid-reads s 0 given room h e ∙ not-shown s given l f
 
 -- over 4,096 octets nothing but the table is looked at before 2
-pub too-long : (s : Octets) (given room : ℕ) → 4096 < length s → reading s given room ≡ check (leb 256 room) 1 0 >> refused 2 0
+pub too-long : (s : Octets) (given room : ℕ) → 4096 < length s → reading s given room ≡ check (leb tableSize room) 1 0 >> refused 2 0
 unfolding readingAt layoutAt headAt
 too-long s given room h = simp (lt-ltb 0 (length s) (omega arith), lt-leb (length s) 4096 h)

@@ -9,12 +9,11 @@ use lib.Dec.{eqb}
 use native.Mathlib.Omega.{arith}
 use Rattle.element.specs.Octets.{Octets, AreOctets, if}
 use Rattle.element.specs.Answer.{Answer, accepted, refused}
-use Rattle.component.specs.Table.{tableWith}
+use Rattle.component.specs.Table.{tableSize, tableWith}
 use Rattle.component.specs.Grammar.{Parameter, Component, parametersOf, kindOf, identifierOf, specifierOf}
 use Rattle.component.specs.Faults.{LaidOut}
-use Rattle.component.proofs.Shown.{Shows, Pairwise}
-use Rattle.component.specs.Standing.{standing}
-use Rattle.component.proofs.Complete.{complete}
+use Rattle.component.specs.Standing.{Shows, Pairwise, standing}
+use Rattle.component.proofs.Shown.{standing-show}
 use Rattle.operation.specs.Row.{Row, named as names}
 use Rattle.operation.specs.Judge.{judge, pointed}
 use Rattle.operation.specs.Faults.{RowFault, again, missing, both}
@@ -53,11 +52,11 @@ module _ {row : Row} where
   more-others (kept p j) = one-more (not (names row (keyOf p))) _ _ _ (more-others j)
   more-others (newcomer p u j) = rw u (omega (arith, more-others j))
 
-module _ (given : ℕ) (t : List ℕ) (enough : 256 ≤ length t) {row : Row} where
+module _ (given : ℕ) (t : List ℕ) (enough : tableSize ≤ length t) {row : Row} where
   -- a component that is laid out, and its row: what ours reads
   module _ {c : Component} {s : Octets} (o : AreOctets s) (h : LaidOut c s) (e : RowFor (kindOf c) (specifierOf c given) row) where
     shows : Pairwise (Shows s) (standing (h .laid)) (parametersOf c)
-    shows = let (l, _, r) = complete (h .laid) (h .within) (h .few) in rw (r .entries) at (r .outlines .shows)
+    shows = standing-show (h .laid)
 
     all-right : judge row (map itemOf (standing (h .laid))) ≡ accepted tt → reader s given t ≡ read (accepted (tells given c row)) (tableWith (standing (h .laid)) t)
     all-right j = reader-accepts s o given t (record { enough = enough; laid-out = h; has-row = e; fits = fits-read row shows .0 j })

@@ -10,16 +10,13 @@ use Rattle.element.specs.Octets.{Octets}
 use Rattle.element.specs.Answer.{Answer, accepted, refused, _>>=_}
 use Rattle.element.proofs.FieldLaws.{put-next, put-stores}
 use Rattle.component.specs.declared.Count.the-variants as CV
-use Rattle.component.specs.Table.{Entry, next, numbers, tableWith}
+use Rattle.component.specs.Table.{Entry, next, width, numbersOf, numbers, tableWith}
 use Rattle.component.specs.Layout.{parameterFrom, parameters}
 use Rattle.component.proofs.Entries.{numbers-length}
 use Rattle.component.proofs.Laying.{parameter-within}
 use Rattle.operation.specs.inner.Sheet.{Walked}
 
-abbrev four : Entry → List ℕ
-four e = e .number ∷ e .form ∷ e .start ∷ e .size ∷ []
-
-numbers-more : (es : List Entry) (e : Entry) → numbers (es ++ (e ∷ [])) ≡ numbers es ++ four e
+numbers-more : (es : List Entry) (e : Entry) → numbers (es ++ (e ∷ [])) ≡ numbers es ++ numbersOf e
 unfolding numbers
 numbers-more [] e = refl
 numbers-more (f ∷ es) e = rw (numbers-more es e)
@@ -67,14 +64,14 @@ module _ (s : Octets) (from : ℕ) (z : List ℕ) where
         unfolding parameters
         stops q = w .whole ∙ rw room (simp (lt-leb (length s) at, ← parameter-within s at short h, q))
 
-        pub goes-on : {e : Entry} → parameterFrom s at ≡ accepted e → 4 * count + 4 ≤ length sheet → {after : List ℕ} →
-            after ≡ sets sheet (4 * count) (four e) → Done s from z (count + 1) (next e) after
+        pub goes-on : {e : Entry} → parameterFrom s at ≡ accepted e → width * count + width ≤ length sheet → {after : List ℕ} →
+            after ≡ sets sheet (width * count) (numbersOf e) → Done s from z (count + 1) (next e) after
         unfolding parameters tableWith
         goes-on {e} q fit f =
-            let n : 4 * count ≡ length (numbers (w .entries)) = omega (arith, numbers-length (w .entries), w .many) in
+            let n : width * count ≡ length (numbers (w .entries)) = omega (arith, numbers-length (w .entries), w .many) in
             record {
               entries = w .entries ++ (e ∷ []);
               many = length-append (w .entries) (e ∷ []) ∙ omega (arith, w .many);
-              holds = f ∙ put-stores (four e) (4 * count) sheet fit ∙ rw (n, w .holds, numbers-more) (put-next (numbers (w .entries)) (four e) z);
+              holds = f ∙ put-stores (numbersOf e) (width * count) sheet fit ∙ rw (n, w .holds, numbers-more) (put-next (numbers (w .entries)) (numbersOf e) z);
               whole = w .whole ∙ rw room (simp (lt-leb (length s) at, ← parameter-within s at short h, q) (behind-one (w .entries) e (parameters (64 - (count + 1)) s (next e) (length s))));
             }

@@ -1,18 +1,17 @@
 -- What `judge_table`, `weigh` and `write` cite: what the row says of the table beside what is measured, as the weighing and the writing that they come to.
 use Prim.Native.Nat.{ℕ, zero, suc, _+_, _*_, _<_, _≤_}
 use mathlib.Core.Path.{_≡_, refl, sym, ap, _∙_}
-use mathlib.Core.List.{List, [], _∷_, List·Memᴰ, List·Memᴰ·cases-cons, List·Memᴰ·not-nil}
-use mathlib.Core.Logic.{_≢_, ⊎-elim}
+use mathlib.Core.List.{List, [], _∷_}
+use mathlib.Core.Logic.{⊎-elim}
 use lib.ListN.{length}
 use borrow.Author.Tests.{le-leb, lt-leb}
-use native.Mathlib.Nat.{zero-add}
 use native.Mathlib.Omega.{arith}
 use Rattle.element.specs.Octets.{Octets}
 use Rattle.element.specs.Answer.{Answer, accepted, refused, _>>=_}
 use Rattle.component.specs.declared.Id as D
 use Rattle.component.specs.Grammar.{Parameter}
-use Rattle.component.specs.Table.{entryOf}
-use Rattle.component.specs.Composing.{entryStands, entriesFrom, entriesOf, Sizes, measured, octetsOf, composing, written, outputAfter}
+use Rattle.component.specs.Table.{width, held, heldFrom, parameterOf}
+use Rattle.component.specs.Composing.{entryStands, takenFrom, entriesFrom, entriesOf, Sizes, measured, octetsOf, composing, written, outputAfter}
 use Rattle.component.specs.Needed.{octetsNeeded}
 use Rattle.component.proofs.Taken.{taken, passed, stopped}
 use Rattle.component.proofs.Measuring.{sizesOf, ready}
@@ -20,32 +19,23 @@ use denote.Enum.Declared.{tagOf}
 use types.Run.{OneOf}
 use Rattle.operation.specs.declared.Judged as J
 use Rattle.operation.specs.declared.Judged.the-variants as JV
-use Rattle.operation.specs.inner.Finishing.{Narrow}
-use Rattle.operation.specs.Row.{Row, Item}
+use Rattle.operation.specs.Row.{Row}
 use Rattle.operation.specs.Judge.{judge, countNamed}
 use Rattle.operation.specs.Finding.{rowOf}
 use Rattle.operation.specs.inner.Coded.{itemAt, itemsFrom, judgement, verdict, said, judgedIn}
 use Rattle.operation.specs.Items.{itemsOf}
 use Rattle.operation.specs.Writing.{writing, weighing}
 use Rattle.operation.proofs.Judged
-use Rattle.operation.proofs.RowFaults.{row-faulty, pointed-at}
-use Rattle.operation.proofs.Readings.{either-row}
 
 -- the items of a table are those of the parameters that it makes
 same-items : (t : List ℕ) (source : Octets) (i n : ℕ) {ps : List Parameter} → entriesFrom i n t source ≡ accepted ps → itemsFrom t i n ≡ itemsOf i ps
-unfolding entriesFrom itemsFrom itemsOf itemAt entryOf
+unfolding takenFrom heldFrom itemsFrom itemsOf itemAt parameterOf
 same-items t source i zero {ps} e = let f : [] ≡ ps = cc in rw (← f)
 same-items t source i (suc n) {ps} e =
-    let (a, f) = passed (entryStands t source i) 16 i e in
+    let (a, f) = passed (entryStands source (held t i)) 16 i e in
     let (qs, g, h) = taken (entriesFrom (i + 1) n t source) f in
-    let k : entryOf t source i ∷ qs ≡ ps = cc in
+    let k : parameterOf source (held t i) ∷ qs ≡ ps = cc in
     rw (← k) (ap (λ xs. itemAt t i ∷ xs) (same-items t source (i + 1) n g))
-
-mark-below : (t : List ℕ) (i n : ℕ) (x : Item) → List·Memᴰ x (itemsFrom t i n) → x .mark < i + n
-unfolding itemsFrom itemAt
-mark-below t i zero x m = absurd (List·Memᴰ·not-nil m)
-mark-below t i (suc n) x m =
-    ⊎-elim (λ f. let g = ap (λ y. y .mark) f in omega arith) (λ k. omega (arith, mark-below t (i + 1) n x k)) (List·Memᴰ·cases-cons m)
 
 module _ (kind specifier count : ℕ) (t : List ℕ) where
   pub many : 64 < count → accepted 0 ≡ said kind specifier count t
@@ -53,37 +43,13 @@ module _ (kind specifier count : ℕ) (t : List ℕ) where
   many h = simp (lt-leb count 64)
 
   module _ (few : count ≤ 64) where
-    pub cramped : length t < 4 * count → accepted 0 ≡ said kind specifier count t
+    pub cramped : length t < width * count → accepted 0 ≡ said kind specifier count t
     unfolding said
-    cramped h = simp (le-leb count 64, lt-leb (4 * count) (length t))
+    cramped h = simp (le-leb count 64, lt-leb (width * count) (length t))
 
-    pub judged : 4 * count ≤ length t → verdict kind specifier (itemsFrom t 0 count) ≡ said kind specifier count t
+    pub judged : width * count ≤ length t → verdict kind specifier (itemsFrom t 0 count) ≡ said kind specifier count t
     unfolding said
-    judged h = simp (le-leb count 64, le-leb (4 * count) (length t))
-
-  pub entry-below : {n d : ℕ} → refused n d ≡ verdict kind specifier (itemsFrom t 0 count) → n ≢ 11 → n ≢ 13 → d < count
-  unfolding verdict judgement
-  entry-below {n} {d} e f g =
-      ⊎-elim
-      (λ (row, h). go row (judge row (itemsFrom t 0 count)) refl (e ∙ rw (h 0)))
-      (λ h. absurd (f (let q : _≡_ {A = Answer ℕ} (refused n d) (refused 11 0) = e ∙ rw (h 0) in cc)))
-      (either-row kind specifier)
-    where
-      go : (row : Row) (a : Answer Unit) → judge row (itemsFrom t 0 count) ≡ a → refused n d ≡ (a >>= λ _. accepted (countNamed row (itemsFrom t 0 count))) → d < count
-      go row (accepted u) q r = let z : _≡_ {A = ℕ} 0 1 = cc in absurd (omega arith)
-      go row (refused m c) q r =
-          let a : n ≡ m = cc in
-          let b : d ≡ c = cc in
-          let (x, mem, mark) = pointed-at (row-faulty row (itemsFrom t 0 count) q) (λ k. g (a ∙ k)) in
-          omega (arith, rw zero-add at (mark-below t 0 count x mem))
-
-  -- an entry that is pointed to is one of at most 64
-  pub narrow : count ≤ 64 → (j : J.Judged) → judgedIn j ≡ verdict kind specifier (itemsFrom t 0 count) → Narrow j
-  narrow h (JV.Fits named) e = tt
-  narrow h JV.NoRow e = tt
-  narrow h (JV.Again entry) e = omega (arith, entry-below e (omega arith) (omega arith))
-  narrow h (JV.Missing number) e = tt
-  narrow h (JV.Both entry) e = omega (arith, entry-below e (omega arith) (omega arith))
+    judged h = simp (le-leb count 64, le-leb (width * count) (length t))
 
 -- what is done with the parameters once the row has accepted them
 module _ (kind : ℕ) (id : D.Id) (specifier count : ℕ) (t : List ℕ) (source : Octets) {A : Type 0} (work : List Parameter → Answer A) where

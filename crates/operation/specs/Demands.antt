@@ -6,14 +6,26 @@ use mathlib.Core.Path.{_≡_}
 use mathlib.Core.Bool.{Bool, false, not}
 use mathlib.Core.List.{List, [], _∷_, _++_, map, List·Memᴰ}
 use mathlib.Core.Logic.{_⊎_}
-use lib.ListN.{length, getD, take, drop}
+use lib.ListN.{length, take, drop}
 use Rattle.element.specs.Octets.{Octets, AreOctets, if}
 use Rattle.element.specs.Answer.{accepted, refused}
-use Rattle.component.specs.Table.{Entry, idOf, tableWith, idOctets, componentOf, parametersFrom}
+use Rattle.component.specs.Table.{
+  Entry,
+  width,
+  tableSize,
+  tableWith,
+  held,
+  heldFrom,
+  EntryStands,
+  parametersFrom,
+  idOf,
+  idOctets,
+  componentOf,
+}
 use Rattle.component.specs.Grammar.{Parameter, Laid, Component, parametersOf, kindOf, identifierOf, specifierOf}
 use Rattle.component.specs.Faults.{Faulty, LaidOut, Typed, Allowed}
 use Rattle.component.specs.Composed.{composed}
-use Rattle.component.specs.Standing.{standing, specifierPlace}
+use Rattle.component.specs.Standing.{Shows, Pairwise, standing, specifierPlace}
 use Rattle.component.specs.Needed.{octetsNeeded}
 use Rattle.operation.specs.Row.{Row, key, named as names}
 use Rattle.operation.specs.Rows.{operations}
@@ -40,17 +52,17 @@ tally test (k ∷ ks) = if (test k) (1 + tally test ks) (tally test ks)
 -- ---- the reader: 1, the faults of the octets, 11, and the faults of the run against its row, each parameter marked by
 -- its place
 pub data ReaderRefuses (s : Octets) (given : ℕ) (t : List ℕ) : (number detail : ℕ) → Type 0 where
-  table : length t < 256 → ReaderRefuses s given t 1 0
-  fault : {n d : ℕ} → 256 ≤ length t → Faulty n d s → ReaderRefuses s given t n d
-  no-row : {c : Component} → 256 ≤ length t → (h : LaidOut c s) → NoRow (kindOf c) (specifierOf c given) →
+  table : length t < tableSize → ReaderRefuses s given t 1 0
+  fault : {n d : ℕ} → tableSize ≤ length t → Faulty n d s → ReaderRefuses s given t n d
+  no-row : {c : Component} → tableSize ≤ length t → (h : LaidOut c s) → NoRow (kindOf c) (specifierOf c given) →
       ReaderRefuses s given t 11 (specifierPlace (h .laid))
-  misfit : {c : Component} {row : Row} {n d : ℕ} → 256 ≤ length t → (h : LaidOut c s) →
+  misfit : {c : Component} {row : Row} {n d : ℕ} → tableSize ≤ length t → (h : LaidOut c s) →
       RowFor (kindOf c) (specifierOf c given) row → RowFault row (map itemOf (standing (h .laid))) n d →
       ReaderRefuses s given t n d
 
 -- laid out within the limits, with a row, and as the book's table has it
 pub record Right (s : Octets) (given : ℕ) (t : List ℕ) (c : Component) (row : Row) : Type 0 where
-  pub enough : 256 ≤ length t
+  pub enough : tableSize ≤ length t
   pub laid-out : LaidOut c s
   pub has-row : RowFor (kindOf c) (specifierOf c given) row
   pub fits : Fits row (map keyOf (parametersOf c))
@@ -69,10 +81,8 @@ tells given c row =
 
 -- ---- the writer: 3, 6, 10, 1, 16, 15, 11, the faults of the run against its row, each parameter marked by its entry,
 -- and 17
-pub record EntryStands (o : Order) (i : ℕ) : Type 0 where
-  pub number : getD (o .table) (4 * i) 0 ≤ 16383
-  pub form : getD (o .table) (4 * i + 1) 0 ≤ 1
-  pub content : getD (o .table) (4 * i + 2) 0 + getD (o .table) (4 * i + 3) 0 ≤ length (o .source)
+abbrev pub Stands : Order → (i : ℕ) → Type 0
+Stands o i = EntryStands (o .source) (held (o .table) i)
 
 abbrev pub ordered : Order → List Parameter
 ordered o = parametersFrom 0 (o .count) (o .table) (o .source)
@@ -90,22 +100,22 @@ octetsFor o = composed (made o)
 pub record Held (o : Order) : Type 0 where
   pub allowed : Allowed (o .kind) (o .id .count)
   pub few : o .count ≤ 64
-  pub table : 4 * o .count ≤ length (o .table)
+  pub table : width * o .count ≤ length (o .table)
 
 pub record Ready (o : Order) : Type 0 where
   pub held : Held o
-  pub stand : (i : ℕ) → i < o .count → EntryStands o i
+  pub stand : (i : ℕ) → i < o .count → Stands o i
   pub short : needed o ≤ 4096
 
 pub data WriterRefuses (o : Order) (out : Octets) : (number detail : ℕ) → Type 0 where
   no-type : (Typed (o .kind) → ⊥) → WriterRefuses o out 3 0
   no-id : Typed (o .kind) → (Allowed (o .kind) (o .id .count) → ⊥) → WriterRefuses o out 6 0
   too-many : Allowed (o .kind) (o .id .count) → 64 < o .count → WriterRefuses o out 10 0
-  no-table : Allowed (o .kind) (o .id .count) → o .count ≤ 64 → length (o .table) < 4 * o .count →
+  no-table : Allowed (o .kind) (o .id .count) → o .count ≤ 64 → length (o .table) < width * o .count →
       WriterRefuses o out 1 0
-  no-entry : {i : ℕ} → Held o → i < o .count → ((j : ℕ) → j < i → EntryStands o j) → (EntryStands o i → ⊥) →
+  no-entry : {i : ℕ} → Held o → i < o .count → ((j : ℕ) → j < i → Stands o j) → (Stands o i → ⊥) →
       WriterRefuses o out 16 i
-  too-long : Held o → ((i : ℕ) → i < o .count → EntryStands o i) → 4096 < needed o → WriterRefuses o out 15 (needed o)
+  too-long : Held o → ((i : ℕ) → i < o .count → Stands o i) → 4096 < needed o → WriterRefuses o out 15 (needed o)
   no-row : Ready o → NoRow (o .kind) (o .specifier) → WriterRefuses o out 11 0
   misfit : {row : Row} {n d : ℕ} → Ready o → RowFor (o .kind) (o .specifier) row →
       RowFault row (itemsOf 0 (ordered o)) n d → WriterRefuses o out n d
@@ -143,6 +153,10 @@ pub record Demand2 (r : Reader) (w : Writer) : Type 0 where
   pub shown : (s : Octets) (given : ℕ) (t : List ℕ) {c : Component} {row : Row} → AreOctets s →
       (h : Right s given t c row) →
       r s given t ≡ read (accepted (tells given c row)) (tableWith (standing (h .laid-out .laid)) t)
+  -- each entry of the table shows its parameter: the fifth number is the place of the identifier
+  pub placed : (s : Octets) (given : ℕ) (t : List ℕ) {c : Component} {row : Row} → AreOctets s →
+      Right s given t c row →
+      Pairwise (Shows s) (heldFrom 0 (length (parametersOf c)) (r s given t .table)) (parametersOf c)
   pub writer : (o : Order) (out : Octets) {n : ℕ} → w o out .answer ≡ accepted n → (row : Row) × Writable o out row
   pub written : (o : Order) (out : Octets) {row : Row} → Writable o out row →
       w o out ≡ wrote (accepted (length (octetsFor o))) (octetsFor o ++ drop (length (octetsFor o)) out)
@@ -153,7 +167,7 @@ pub record Demand2 (r : Reader) (w : Writer) : Type 0 where
       ≡ wrote (accepted (length s)) (s ++ drop (length s) out)
   -- reading what was written returns what was ordered
   pub write-then-read : (o : Order) (out : Octets) (t : List ℕ) {n : ℕ} → o .specifier < 256 →
-      w o out .answer ≡ accepted n → 256 ≤ length t → AreOctets (take n (w o out .output)) →
+      w o out .answer ≡ accepted n → tableSize ≤ length t → AreOctets (take n (w o out .output)) →
       ReadAgain r o (take n (w o out .output)) t
 
 -- ---- demand 3: what a row does not name changes nothing of its verdict
@@ -206,7 +220,7 @@ pub data Truthful {c d : Component} {s u : Octets} (x : Laid c s) (y : Laid d u)
 
 pub record Demand3 (r : Reader) : Type 0 where
   pub truthful : (given : ℕ) (c d : Component) (s u : Octets) (t : List ℕ) {row : Row} → AreOctets s → AreOctets u →
-      256 ≤ length t → (h : LaidOut c s) (k : LaidOut d u) → kindOf d ≡ kindOf c →
+      tableSize ≤ length t → (h : LaidOut c s) (k : LaidOut d u) → kindOf d ≡ kindOf c →
       identifierOf d ≡ identifierOf c → specifierOf d given ≡ specifierOf c given →
       RowFor (kindOf c) (specifierOf c given) row → (j : Joined row (parametersOf c) (parametersOf d)) →
       Truthful (h .laid) (k .laid) j t (r s given t) (r u given t)

@@ -4,7 +4,7 @@ use mathlib.Core.List.{List, [], _∷_, map}
 use lib.Dec.{leb}
 use Rattle.element.specs.Octets.{Octets, if, between}
 use Rattle.element.specs.Answer.{Answer, accepted, refused, _>>=_, _>>_, check}
-use Rattle.component.specs.Table.{Entry, tableWith}
+use Rattle.component.specs.Table.{Entry, tableSize, tableWith}
 use Rattle.component.specs.Layout.{Layout, layoutFrom, layoutAt, specifierIn}
 use Rattle.operation.specs.Row.{Row, Item, named}
 use Rattle.operation.specs.Judge.{judge, countNamed}
@@ -49,7 +49,7 @@ readingFrom s from given = layoutFrom s from >>= shownOf s given
 -- the same, with 1 and 2 asked first
 unfoldable pub readingAt : Octets → (from given room : ℕ) → Answer Shown
 readingAt s from given room = do
-  check (leb 256 room) 1 0
+  check (leb tableSize room) 1 0
   l ← layoutAt s from
   shownOf s given l
 

@@ -4,9 +4,11 @@ use super::Missing;
 use super::Notes;
 use super::Repeat;
 use super::rows::DIGITS;
+use component::WIDTH;
 ghost use mathlib.Core.Path.{_≡_};
 ghost use Prim.Native.Nat.{_+_, _*_, _<_, _≤_};
 ghost use lib.ListN.{length};
+ghost use Rattle.component.specs.Table.{width};
 ghost use Rattle.operation.specs.Row.{oneOf};
 ghost use Rattle.operation.specs.Judge.{lastMark};
 ghost use Rattle.operation.specs.inner.Coded.{holds, itemAt, itemsFrom};
@@ -22,11 +24,11 @@ pub(crate) fn wide(x: u16) -> u64
 
 // The key of an entry: its number twice, and one more where it is a constructor.
 fn key_at(table: &[u16], entry: usize) -> u64
-    requires { ⌜ 4 * entry + 1 < length (now table) ⌝ }
+    requires { ⌜ width * entry + 1 < length (now table) ⌝ }
     ensures { λ r. ⌜ r ≡ itemAt (now (table .entry)) entry .is ⌝ }
 {
-    let number = wide(table[4 * entry]);
-    let form = wide(table[4 * entry + 1]);
+    let number = wide(table[WIDTH * entry]);
+    let form = wide(table[WIDTH * entry + 1]);
     number * 2 + form
 }
 
@@ -43,7 +45,7 @@ fn has(set: &[u64], key: u64) -> bool
 
 // The last entry that is one of two.
 fn last_of(one: u64, other: u64, table: &[u16], count: usize) -> usize
-    requires { ⌜ (4 * count ≤ length (now table)) × (count ≤ 64) ⌝ }
+    requires { ⌜ (width * count ≤ length (now table)) × (count ≤ 64) ⌝ }
     ensures { λ r. ⌜ r ≡ lastMark (oneOf one other) 0 (itemsFrom (now (table .entry)) 0 count) ⌝ }
 {
     let mut last: usize = 0;
@@ -68,7 +70,7 @@ fn last_of(one: u64, other: u64, table: &[u16], count: usize) -> usize
 // 12: the first entry that occurred before, of those that the row names and may not repeat. Each that the row names is
 // noted, and one that is not noted did not occur before.
 pub(crate) fn note(names: &[u64], table: &[u16], count: usize) -> Notes
-    requires { ⌜ (4 * count ≤ length (now table)) × (count ≤ 64) × (length (now names) ≤ 13) ⌝ }
+    requires { ⌜ (width * count ≤ length (now table)) × (count ≤ 64) × (length (now names) ≤ 13) ⌝ }
     ensures { λ r. ⌜ Walked (r .repeat) (now (names .entry)) (r .seen) (itemsFrom (now (table .entry)) 0 count) ⌝ }
 {
     let mut seen = [0u64; 13];
@@ -138,7 +140,7 @@ pub(crate) fn settle(
     count: usize,
     notes: Notes,
 ) -> Judged
-    requires { ⌜ (4 * count ≤ length (now table)) × (count ≤ 64) ⌝ }
+    requires { ⌜ (width * count ≤ length (now table)) × (count ≤ 64) ⌝ }
     ensures { λ r. ⌜ Settles (notes .repeat) r (now (must .entry)) one other (notes .seen)
         (itemsFrom (now (table .entry)) 0 count) ⌝ }
 {

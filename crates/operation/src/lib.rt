@@ -9,6 +9,8 @@ use component::Head;
 use component::Heading;
 use component::Id;
 use component::Measured;
+use component::TABLE;
+use component::WIDTH;
 use engine::wide;
 use rows::judge_operation;
 use sheet::copy_numbers;
@@ -16,12 +18,11 @@ use sheet::parameters_from;
 ghost use mathlib.Core.Path.{_≡_};
 ghost use Prim.Native.Nat.{_*_, _<_, _≤_};
 ghost use lib.ListN.{length};
+ghost use Rattle.component.specs.Table.{tableSize, held};
 ghost use Rattle.component.specs.Told.{countIn};
 ghost use Rattle.operation.specs.inner.Coded.{judgedIn, said};
 ghost use Rattle.operation.specs.inner.Finishing.{
-  Narrow,
   specifierFor,
-  placeFrom,
   Pointing,
   finished,
   tableFinished,
@@ -94,17 +95,12 @@ fn specifier_of(heading: Heading, given: u8) -> u8
     given
 }
 
-// The place of an entry of the sheet: where the one before it ends, the first where the set's contents start.
-fn place_of(sheet: &[u16], entry: usize, set: usize) -> u32
-    requires { ⌜ (4 * entry ≤ length (now sheet)) × (entry ≤ 64) × (set ≤ 4096) ⌝ }
-    ensures { λ r. ⌜ r ≡ placeFrom (now (sheet .entry)) set entry ⌝ }
+// The place of an entry of the sheet.
+fn place_of(sheet: &[u16], entry: usize) -> u32
+    requires { ⌜ (entry < 64) × (tableSize ≤ length (now sheet)) ⌝ }
+    ensures { λ r. ⌜ r ≡ held (now (sheet .entry)) entry .place ⌝ }
 {
-    if entry == 0 {
-        return set as u32;
-    }
-    let start = wide(sheet[4 * entry - 2]);
-    let size = wide(sheet[4 * entry - 1]);
-    (start + size) as u32
+    wide(sheet[WIDTH * entry + 4]) as u32
 }
 
 // What the row says of the parameters: where all fits they are shown, else a refusal points into the component.
@@ -116,14 +112,14 @@ fn finish(
     sheet: &[u16],
     table: &mut [u16],
 ) -> Reading
-    requires { ⌜ (count ≤ 64) × (256 ≤ length (now sheet)) × (256 ≤ length (now table))
-        × (heading .operation ≤ 4096) × (heading .set ≤ 4096) × Pointing count judged ⌝ }
+    requires { ⌜ (count ≤ 64) × (tableSize ≤ length (now sheet)) × (tableSize ≤ length (now table))
+        × (heading .operation ≤ 4096) × Pointing count judged ⌝ }
     ensures { λ r. ⌜ (answerIn r ≡ finished heading specifier count (now (sheet .entry)) (judgedIn judged))
         × (now (table .exit) ≡ tableFinished count (now (sheet .entry)) (now (table .entry)) (judgedIn judged)) ⌝ }
 {
     match judged {
         Judged::Fits(named) => {
-            copy_numbers(sheet, table, 4 * count);
+            copy_numbers(sheet, table, WIDTH * count);
             let id = heading.id;
             Reading::Accepted {
                 kind: heading.kind,
@@ -140,7 +136,7 @@ fn finish(
         },
         Judged::Again(entry) => Reading::Refused {
             number: 12,
-            detail: place_of(sheet, entry, heading.set),
+            detail: place_of(sheet, entry),
         },
         Judged::Missing(number) => Reading::Refused {
             number: 13,
@@ -148,19 +144,19 @@ fn finish(
         },
         Judged::Both(entry) => Reading::Refused {
             number: 14,
-            detail: place_of(sheet, entry, heading.set),
+            detail: place_of(sheet, entry),
         },
     }
 }
 
 // Reads the component that stands from `from` to the end of the octets. A RESULT is of the operation whose specifier is
-// handed in; four numbers for each parameter go to the lent table, which a refusal leaves as it was.
+// handed in; an entry for each parameter goes to the lent table, which a refusal leaves as it was.
 pub fn read_from(octets: &[u8], from: usize, specifier: u8, table: &mut [u16]) -> Reading
     ensures { λ r. ⌜ (answerIn r ≡ told (readingAt (now (octets .entry)) from specifier (length (now (table .entry)))))
         × (now (table .exit) ≡ tableAfter (now (table .entry))
         (readingAt (now (octets .entry)) from specifier (length (now (table .entry))))) ⌝ }
 {
-    if table.len() < 256 {
+    if table.len() < TABLE {
         return Reading::Refused {
             number: 1,
             detail: 0,
@@ -168,7 +164,7 @@ pub fn read_from(octets: &[u8], from: usize, specifier: u8, table: &mut [u16]) -
     }
     match component::head_from(octets, from) {
         Head::Found(heading) => {
-            let mut sheet = [0u16; 256];
+            let mut sheet = [0u16; TABLE];
             match parameters_from(octets, heading.set, &mut sheet) {
                 Count::Of(count) => {
                     let kind = heading.kind;
@@ -195,12 +191,12 @@ pub fn read(component: &[u8], specifier: u8, table: &mut [u16]) -> Reading
 
 // What the row says of the entries. Where the table has no room for them it says nothing: `measure` refuses that.
 fn judge_table(kind: u8, specifier: u8, count: usize, table: &[u16]) -> Judged
-    ensures { λ r. ⌜ (judgedIn r ≡ said kind specifier count (now (table .entry))) × Narrow r ⌝ }
+    ensures { λ r. ⌜ (judgedIn r ≡ said kind specifier count (now (table .entry))) × Pointing 64 r ⌝ }
 {
     if 64 < count {
         return Judged::Fits(0);
     }
-    if table.len() < 4 * count {
+    if table.len() < WIDTH * count {
         return Judged::Fits(0);
     }
     judge_operation(kind, specifier, table, count)
@@ -208,7 +204,7 @@ fn judge_table(kind: u8, specifier: u8, count: usize, table: &[u16]) -> Judged
 
 // The writer's answer by it: an entry is the detail of 12 and of 14.
 fn row_answer(judged: Judged) -> Writing
-    requires { ⌜ Narrow judged ⌝ }
+    requires { ⌜ Pointing 64 judged ⌝ }
     ensures { λ r. ⌜ writtenIn r ≡ judgedIn judged ⌝ }
 {
     match judged {

@@ -6,6 +6,7 @@ use super::names;
 ghost use mathlib.Core.Path.{_≡_};
 ghost use Prim.Native.Nat.{_*_, _≤_};
 ghost use lib.ListN.{length};
+ghost use Rattle.component.specs.Table.{width};
 ghost use Rattle.operation.specs.inner.Coded.{itemsFrom, verdict, judgedIn};
 
 // ---- the register: the number twice, for all are primitive
@@ -179,7 +180,7 @@ const IMSI_KEY: u64 = IMSI as u64;
 // where it knows the row. A constant that is lent is stored where the function starts, and one that an arm copies is
 // stored there alone.
 fn judge_invoke(specifier: u8, table: &[u16], count: usize) -> Judged
-    requires { ⌜ (4 * count ≤ length (now table)) × (count ≤ 64) ⌝ }
+    requires { ⌜ (width * count ≤ length (now table)) × (count ≤ 64) ⌝ }
     ensures { λ r. ⌜ judgedIn r ≡ verdict 0xE9 specifier (itemsFrom (now (table .entry)) 0 count) ⌝ }
 {
     match specifier {
@@ -220,7 +221,7 @@ fn judge_invoke(specifier: u8, table: &[u16], count: usize) -> Judged
 
 // The same of a return result.
 fn judge_result(specifier: u8, table: &[u16], count: usize) -> Judged
-    requires { ⌜ (4 * count ≤ length (now table)) × (count ≤ 64) ⌝ }
+    requires { ⌜ (width * count ≤ length (now table)) × (count ≤ 64) ⌝ }
     ensures { λ r. ⌜ judgedIn r ≡ verdict 0xEA specifier (itemsFrom (now (table .entry)) 0 count) ⌝ }
 {
     match specifier {
@@ -260,7 +261,7 @@ fn judge_result(specifier: u8, table: &[u16], count: usize) -> Judged
 
 // What the row of an operation says of `count` entries of a table.
 pub(crate) fn judge_operation(kind: u8, specifier: u8, table: &[u16], count: usize) -> Judged
-    requires { ⌜ (4 * count ≤ length (now table)) × (count ≤ 64) ⌝ }
+    requires { ⌜ (width * count ≤ length (now table)) × (count ≤ 64) ⌝ }
     ensures { λ r. ⌜ judgedIn r ≡ verdict kind specifier (itemsFrom (now (table .entry)) 0 count) ⌝ }
 {
     if kind == 0xE9 {

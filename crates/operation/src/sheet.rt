@@ -1,29 +1,40 @@
-// The work sheet of a reading, with four numbers for each parameter: a refusal never reaches the lent table.
+// The work sheet of a reading, a table of its own: a refusal never reaches the lent one.
 use component::Count;
 use component::Parameter;
+use component::WIDTH;
 ghost use mathlib.Core.Path.{_≡_};
-ghost use mathlib.Core.List.{[], _∷_};
 ghost use Prim.Native.Nat.{_+_, _*_, _≤_};
 ghost use lib.ListN.{length};
 ghost use lib.Seq.{sets};
+ghost use Rattle.component.specs.Table.{width, tableSize, numbersOf};
 ghost use Rattle.component.specs.Layout.{parameters};
 ghost use Rattle.operation.specs.inner.Sheet.{Walked, copied};
 
-// The four numbers of an entry.
-fn show(sheet: &mut [u16], entry: usize, number: u16, form: u16, start: usize, size: usize)
-    requires { ⌜ (4 * entry + 4 ≤ length (now sheet)) × (start ≤ 4096) × (size ≤ 4096) ⌝ }
-    ensures { λ _. ⌜ now (sheet .exit) ≡ sets (now (sheet .entry)) (4 * entry) (number ∷ form ∷ start ∷ size ∷ []) ⌝ }
+// The numbers of an entry.
+fn show(
+    sheet: &mut [u16],
+    entry: usize,
+    number: u16,
+    form: u16,
+    start: usize,
+    size: usize,
+    place: usize,
+)
+    requires { ⌜ (width * entry + width ≤ length (now sheet)) × (start ≤ 4096) × (size ≤ 4096) × (place ≤ 4096) ⌝ }
+    ensures { λ _. ⌜ now (sheet .exit) ≡ sets (now (sheet .entry)) (width * entry)
+        (numbersOf (record { number = number; form = form; start = start; size = size; place = place })) ⌝ }
 {
-    let at = 4 * entry;
+    let at = WIDTH * entry;
     sheet[at] = number;
     sheet[at + 1] = form;
     sheet[at + 2] = start as u16;
     sheet[at + 3] = size as u16;
+    sheet[at + 4] = place as u16;
 }
 
 // The parameters from `from` to the end of the octets, each shown in the sheet.
 pub(crate) fn parameters_from(octets: &[u8], from: usize, sheet: &mut [u16]) -> Count
-    requires { ⌜ (from ≤ length (now octets)) × (length (now octets) ≤ 4096) × (256 ≤ length (now sheet)) ⌝ }
+    requires { ⌜ (from ≤ length (now octets)) × (length (now octets) ≤ 4096) × (tableSize ≤ length (now sheet)) ⌝ }
     ensures { λ r. ⌜ Walked (parameters 64 (now (octets .entry)) from (length (now (octets .entry)))) r
         (now (sheet .entry)) (now (sheet .exit)) ⌝ }
 {
@@ -46,7 +57,7 @@ pub(crate) fn parameters_from(octets: &[u8], from: usize, sheet: &mut [u16]) -> 
                 start,
                 size,
             } => {
-                show(sheet, count, number, form, start, size);
+                show(sheet, count, number, form, start, size, at);
                 at = start + size;
                 count = count + 1;
             }

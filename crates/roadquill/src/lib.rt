@@ -27,8 +27,8 @@ fn shown(kind: u8, count: u8, first: u8, second: u8, specifier: u8, all: u8, nam
 
 // Reads a component. Octet 0 of the result is the answer, 0 where it is accepted. Then octets 1 to 7 are the type, the
 // count of ID octets, the first and the second of them, the specifier, and the counts of all and of named parameters;
-// else octets 1 to 4 are the detail. Four numbers for each parameter go to the lent table, which a refusal leaves as
-// it was.
+// else octets 1 to 4 are the detail. An entry for each parameter goes to the lent table, which a refusal leaves as it
+// was.
 #[no_mangle]
 pub extern "C" fn roadquill_read(component: &[u8], specifier: u8, table: &mut [u16]) -> u64
     ensures { λ r. ⌜ (r ≡ packedReading (reader (now (component .entry)) specifier (now (table .entry)) .answer))

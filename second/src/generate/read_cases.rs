@@ -4,7 +4,7 @@ use super::damage;
 use super::draft::{element, Draft};
 use super::{draw_kind, draw_named, draw_row};
 use crate::random::Random;
-use crate::reader::TABLE_NUMBERS;
+use crate::reader::{MOST_PARAMETERS, TABLE_NUMBERS};
 use crate::rows::{self, INVOKE};
 
 /// What a call of the reader takes; the table's numbers before the call
@@ -38,12 +38,14 @@ pub fn read_case(random: &mut Random) -> ReadCase {
     }
 }
 
-/// Most tables are just long enough.
+/// Most tables are just long enough; one in a hundred would be if an entry
+/// had no place.
 fn table_length(random: &mut Random) -> usize {
     match random.below(100) {
         0..=89 => TABLE_NUMBERS,
-        90..=94 => random.between(TABLE_NUMBERS + 1, 320),
-        95..=97 => TABLE_NUMBERS - 1,
+        90..=94 => TABLE_NUMBERS + random.between(1, MOST_PARAMETERS),
+        95..=96 => TABLE_NUMBERS - 1,
+        97 => TABLE_NUMBERS - MOST_PARAMETERS,
         98 => 0,
         _ => random.below(TABLE_NUMBERS),
     }

@@ -3,6 +3,7 @@
 use super::{choice_members, draw_named, draw_other, draw_parameters, draw_row, draw_rowless};
 use super::{Drawn, FILLER};
 use crate::random::Random;
+use crate::reader::ENTRY_NUMBERS;
 use crate::rows::{Row, INVOKE};
 use crate::writer::{self, Head};
 
@@ -16,14 +17,23 @@ pub struct WriteCase {
     pub output: usize,
 }
 
-/// A case while it is drawn: entries as fours of numbers.
+type Entry = [u16; ENTRY_NUMBERS];
+
+/// The place is put in when the table is made, after all damages.
+fn entry(number: u16, constructor: bool, start: u16, length: u16) -> Entry {
+    [number, u16::from(constructor), start, length, 0]
+}
+
+/// A case while it is drawn.
 struct Draft {
     row: &'static Row,
     head: Head,
-    list: Vec<[u16; 4]>,
+    list: Vec<Entry>,
     source: Vec<u8>,
     /// An entry count other than the list's.
     claimed: Option<usize>,
+    /// Numbers kept of each entry.
+    width: usize,
     /// Numbers missing at the table's end, or in addition behind it.
     missing: usize,
     more: usize,
@@ -32,7 +42,7 @@ struct Draft {
 type Damage = fn(&mut Random, &mut Draft);
 
 /// Some stand twice to be met more often.
-const DAMAGES: [Damage; 27] = [
+const DAMAGES: [Damage; 28] = [
     wrong_type,
     wrong_id_count,
     wrong_id_count,
@@ -40,6 +50,7 @@ const DAMAGES: [Damage; 27] = [
     claim_huge,
     short_table,
     short_table,
+    no_places,
     no_table,
     number_over,
     form_over,
@@ -108,6 +119,7 @@ impl Draft {
             list: Vec::new(),
             source: random.octets(lead),
             claimed: None,
+            width: ENTRY_NUMBERS,
             missing: 0,
             more: 0,
         };
@@ -125,15 +137,12 @@ impl Draft {
         let start = self.source.len() as u16;
         let contents = random.octets(drawn.length);
         self.source.extend(contents);
-        self.list.push([
-            drawn.number,
-            u16::from(drawn.constructor),
-            start,
-            drawn.length as u16,
-        ]);
+        let length = drawn.length as u16;
+        self.list
+            .push(entry(drawn.number, drawn.constructor, start, length));
     }
 
-    fn any(&mut self, random: &mut Random) -> Option<&mut [u16; 4]> {
+    fn any(&mut self, random: &mut Random) -> Option<&mut Entry> {
         let count = self.list.len();
         (count > 0).then(|| &mut self.list[random.below(count)])
     }
@@ -143,7 +152,9 @@ impl Draft {
     }
 
     fn table(&self, random: &mut Random) -> Vec<u16> {
-        let mut table = self.list.concat();
+        let placed = with_places(random, &self.list);
+        let kept = placed.iter().map(|entry| &entry[..self.width]);
+        let mut table = kept.collect::<Vec<_>>().concat();
         table.truncate(table.len().saturating_sub(self.missing));
         for _ in 0..self.more {
             table.push(random.draw() as u16);
@@ -189,6 +200,36 @@ impl Draft {
     }
 }
 
+/// Places of all kinds, as the writer ignores them: in some tables one kind
+/// for all entries, in most each entry its own.
+fn with_places(random: &mut Random, list: &[Entry]) -> Vec<Entry> {
+    let same = random.percent(40).then(|| random.pick(&PLACES));
+    let mut list = list.to_vec();
+    for entry in &mut list {
+        let kind = same.unwrap_or_else(|| random.pick(&PLACES));
+        entry[4] = kind(random, entry);
+    }
+    list
+}
+
+type Place = fn(&mut Random, &Entry) -> u16;
+
+const PLACES: [Place; 6] = [
+    |_, _| 0,
+    |_, _| u16::MAX,
+    |_, entry| right_place(entry),
+    |random, entry| right_place(entry).wrapping_add(random.pick(&[1, 2, 3, u16::MAX])),
+    |random, _| random.pick(&[4095, 4096, 4097]),
+    |random, _| random.draw() as u16,
+];
+
+/// Where a reader that found the contents at this start found the identifier.
+fn right_place(entry: &Entry) -> u16 {
+    let [number, _, start, length, _] = *entry;
+    let octets = writer::identifier_size(number) + writer::field_size(usize::from(length));
+    start.wrapping_sub(octets as u16)
+}
+
 /// Just long enough, longer, one octet short, or far too short.
 fn output_length(random: &mut Random, needed: usize) -> usize {
     match random.below(100) {
@@ -219,13 +260,16 @@ fn claim_other(random: &mut Random, draft: &mut Draft) {
     });
 }
 
-/// Counts of which four times would wrap to something small.
+/// Counts of which five or four times would wrap to something small.
 fn claim_huge(random: &mut Random, draft: &mut Draft) {
+    let fifth = usize::MAX / ENTRY_NUMBERS + 1;
     let quarter = 1 << (usize::BITS - 2);
     let counts = [
         65,
         256,
         65536,
+        fifth,
+        fifth + 1,
         quarter,
         quarter + 1,
         usize::MAX,
@@ -236,7 +280,13 @@ fn claim_huge(random: &mut Random, draft: &mut Draft) {
 
 fn short_table(random: &mut Random, draft: &mut Draft) {
     draft.more = 0;
-    draft.missing = random.pick(&[1, 1, 1, 2, 3, 4, 5]);
+    draft.missing = random.pick(&[1, 1, 1, 2, 3, 4, 5, 6]);
+}
+
+/// Entries of four numbers, without their places.
+fn no_places(random: &mut Random, draft: &mut Draft) {
+    draft.more = random.pick(&[0, 0, 0, 1]);
+    draft.width = ENTRY_NUMBERS - 1;
 }
 
 fn no_table(_: &mut Random, draft: &mut Draft) {
@@ -315,7 +365,7 @@ fn no_row(random: &mut Random, draft: &mut Draft) {
     draft.head.specifier = draw_rowless(random, draft.head.kind);
 }
 
-fn insert(random: &mut Random, draft: &mut Draft, entry: [u16; 4]) {
+fn insert(random: &mut Random, draft: &mut Draft, entry: Entry) {
     let at = random.below(draft.list.len() + 1);
     draft.list.insert(at, entry);
 }
@@ -388,8 +438,7 @@ fn lengthen(random: &mut Random, draft: &mut Draft, count: usize) {
 
 /// A last entry that the row does not name.
 fn add_filler(random: &mut Random, draft: &mut Draft) {
-    let constructor = u16::from(random.percent(50));
-    draft.list.push([FILLER, constructor, 0, 0]);
+    draft.list.push(entry(FILLER, random.percent(50), 0, 0));
 }
 
 /// Edges of the length forms.
@@ -424,7 +473,7 @@ fn fill_with(random: &mut Random, draft: &mut Draft, count: usize, length: u16) 
     for _ in 0..count {
         draft
             .list
-            .push([FILLER, u16::from(random.percent(50)), 0, length]);
+            .push(entry(FILLER, random.percent(50), 0, length));
     }
 }
 
@@ -451,7 +500,7 @@ fn many_long(random: &mut Random, draft: &mut Draft) {
     lengthen(random, draft, length);
     while draft.list.len() < 64 && random.percent(96) {
         let number = random.pick(&[FILLER, 30, 31, 127, 128, 16383]);
-        draft.list.push([number, 1, 0, length as u16]);
+        draft.list.push(entry(number, true, 0, length as u16));
     }
 }
 

@@ -14,7 +14,7 @@ use Rattle.component.specs.declared.Count as C
 use Rattle.component.specs.declared.Count.the-variants as CV
 use Rattle.component.specs.Grammar.{Parameter}
 use Rattle.component.specs.Composed.{element}
-use Rattle.component.specs.Table.{idOctets}
+use Rattle.component.specs.Table.{held, idOctets}
 use Rattle.component.specs.Composing.{entryStands, Sizes}
 use Rattle.component.specs.Needed.{elementSize, setSize, bodySize}
 
@@ -34,7 +34,7 @@ headOctets kind id specifier body set =
 
 -- ---- the entries of a table, where all of them stand
 abbrev pub AllStand : (count : ℕ) (table : List ℕ) (source : Octets) → Type 0
-AllStand count t source = (i : ℕ) → i < count → entryStands t source i ≡ true
+AllStand count t source = (i : ℕ) → i < count → entryStands source (held t i) ≡ true
 
 -- ---- how many octets they take
 unfoldable pub sized : Answer (List Parameter) → Answer ℕ

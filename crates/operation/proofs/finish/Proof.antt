@@ -17,7 +17,7 @@ copy-numbers-requires : tie.Need-copy-numbers-requires
 copy-numbers-requires c κs = search needs
 
 sub-t16 : tie.Need-sub-t16
-sub-t16 c = omega (arith, rw (c .before .before .before .before .before .before .judged .given .1) at (c .before .before .before .before .before .before .before .before .before .before .pre .5))
+sub-t16 c = omega (arith, rw (c .before .before .before .before .before .before .judged .given .1) at (c .before .before .before .before .before .before .before .before .before .before .pre .4))
 
 enum-told : tie.Need-enum-told
 enum-told c = search needs
@@ -29,7 +29,7 @@ enum-known-judged-2 : tie.Need-enum-known-judged-2
 enum-known-judged-2 c = search needs
 
 place-of-requires : tie.Need-place-of-requires
-place-of-requires c κs = omega (arith, rw (c .before .judged2 .given .1) at (c .before .before .before .before .before .pre .5))
+place-of-requires c κs = omega (arith, rw (c .before .judged2 .given .1) at (c .before .before .before .before .before .pre .4))
 
 enum-known-judged-3 : tie.Need-enum-known-judged-3
 enum-known-judged-3 c = search needs
@@ -41,7 +41,7 @@ enum-known-judged-4 : tie.Need-enum-known-judged-4
 enum-known-judged-4 c = search needs
 
 place-of-requires-2 : tie.Need-place-of-requires-2
-place-of-requires-2 c κs = omega (arith, rw (c .before .judged4 .given .1) at (c .before .before .before .before .before .pre .5))
+place-of-requires-2 c κs = omega (arith, rw (c .before .judged4 .given .1) at (c .before .before .before .before .before .pre .4))
 
 same-length : tie.Need-same-length
 same-length c = search needs

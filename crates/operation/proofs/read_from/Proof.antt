@@ -6,6 +6,7 @@ use mathlib.Core.Path.{sym, ap, _∙_}
 use lib.ListN.{replicate}
 use native.Mathlib.Omega.{arith}
 use Rattle.element.specs.Octets.{AreOctets}
+use Rattle.component.specs.Table.{tableSize}
 use Rattle.component.specs.Told.{headingIn}
 use Rattle.component.proofs.Laying as laying
 use Rattle.operation.proofs.Reader.{too-short, headless, stopped, bounds, reached}
@@ -45,7 +46,7 @@ judge-operation-requires c κs =
     let octets : AreOctets (a .octets .now) = λ i. p .before .before .before .before .before .before .before .before .shared-slice-known .given i .fits in
     let found = sym (ap headingIn (p .before .before .before .heading .given .1)) ∙ p .before .before .before .before .before .head-from .ensures in
     let walk = rw (c .before .before .before .count .given .1) at (p .parameters-from .ensures) in
-    let b = bounds (a .octets .now) (a .from) (a .specifier) (a .table .now) octets (p .before .before .before .before .before .before .if1 .left) found (replicate 256 0) walk in
+    let b = bounds (a .octets .now) (a .from) (a .specifier) (a .table .now) octets (p .before .before .before .before .before .before .if1 .left) found (replicate tableSize 0) walk in
     (search needs, search needs)
 
 slice-aggregate-finish : tie.Need-slice-aggregate-finish
@@ -58,9 +59,9 @@ finish-requires c κs =
     let octets : AreOctets (a .octets .now) = λ i. p .before .before .before .before .before .before .before .before .shared-slice-known .given i .fits in
     let found = sym (ap headingIn (p .before .before .before .heading .given .1)) ∙ p .before .before .before .before .before .head-from .ensures in
     let walk = rw (c .before .before .before .before .before .before .count .given .1) at (p .parameters-from .ensures) in
-    let b = bounds (a .octets .now) (a .from) (a .specifier) (a .table .now) octets (p .before .before .before .before .before .before .if1 .left) found (replicate 256 0) walk in
-    let r = reached (a .octets .now) (a .from) (a .specifier) (a .table .now) octets (p .before .before .before .before .before .before .if1 .left) found (replicate 256 0) walk (c .before .before .before .before .specifier-of .ensures) (c .before .before .judge-operation .result) (c .before .before .judge-operation .ensures) in
-    (b .0, search needs, search needs, b .1, b .2, r .0)
+    let b = bounds (a .octets .now) (a .from) (a .specifier) (a .table .now) octets (p .before .before .before .before .before .before .if1 .left) found (replicate tableSize 0) walk in
+    let r = reached (a .octets .now) (a .from) (a .specifier) (a .table .now) octets (p .before .before .before .before .before .before .if1 .left) found (replicate tableSize 0) walk (c .before .before .before .before .specifier-of .ensures) (c .before .before .judge-operation .result) (c .before .before .judge-operation .ensures) in
+    (b .0, search needs, search needs, b .1, r .0)
 
 enum-known-number : tie.Need-enum-known-number
 enum-known-number c = search needs
@@ -78,7 +79,7 @@ returns-2 c =
     let octets : AreOctets (a .octets .now) = λ i. p .before .before .before .before .before .before .before .before .shared-slice-known .given i .fits in
     let found = sym (ap headingIn (p .before .before .before .heading .given .1)) ∙ p .before .before .before .before .before .head-from .ensures in
     let walk = rw (c .before .before .before .before .before .before .before .before .before .count .given .1) at (p .parameters-from .ensures) in
-    let r = reached (a .octets .now) (a .from) (a .specifier) (a .table .now) octets (p .before .before .before .before .before .before .if1 .left) found (replicate 256 0) walk (c .before .before .before .before .before .before .before .specifier-of .ensures) (c .before .before .before .before .before .judge-operation .result) (c .before .before .before .before .before .judge-operation .ensures) in
+    let r = reached (a .octets .now) (a .from) (a .specifier) (a .table .now) octets (p .before .before .before .before .before .before .if1 .left) found (replicate tableSize 0) walk (c .before .before .before .before .before .before .before .specifier-of .ensures) (c .before .before .before .before .before .judge-operation .result) (c .before .before .before .before .before .judge-operation .ensures) in
     (c .before .before .finish .ensures .0 ∙ r .1 .0, c .before .before .finish .ensures .1 ∙ r .1 .1)
 
 returns-3 : tie.Need-returns-3

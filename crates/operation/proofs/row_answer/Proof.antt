@@ -4,15 +4,15 @@ use borrow.Author.Needs.{needs}
 use mathlib.Core.Path.{sym, ap, subst}
 use native.Mathlib.Omega.{arith}
 use Rattle.operation.specs.inner.Coded.{judgedIn}
-use Rattle.operation.specs.inner.Finishing.{Narrow}
+use Rattle.operation.specs.inner.Finishing.{Pointing}
 use Rattle.operation.proofs.row_answer.Statement.{statement}
 use Rattle.operation.proofs.row_answer.Tie as tie
 
 cast-t7 : tie.Need-cast-t7
-cast-t7 c = let h = subst Narrow (c .before .judged2 .given .1) (c .before .before .before .pre) in omega arith
+cast-t7 c = let h = subst (Pointing 64) (c .before .judged2 .given .1) (c .before .before .before .pre) in omega arith
 
 cast-t9 : tie.Need-cast-t9
-cast-t9 c = let h = subst Narrow (c .before .judged4 .given .1) (c .before .before .before .pre) in omega arith
+cast-t9 c = let h = subst (Pointing 64) (c .before .judged4 .given .1) (c .before .before .before .pre) in omega arith
 
 returns : tie.Need-returns
 returns c = sym (ap judgedIn (c .before .judged .given .1))

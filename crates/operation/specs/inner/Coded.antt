@@ -1,5 +1,5 @@
 -- How the code holds a row and a run of parameters: the keys that a row names as a set, those that must occur as a
--- list, the parameters as a table of four numbers each.
+-- list, the parameters as a table of entries.
 use Prim.Native.Nat.{ℕ, zero, suc, _+_, _*_, _/_, _%_, _^_}
 use mathlib.Core.Path.{_≡_}
 use mathlib.Core.Bool.{Bool, true, false, _&&_, _||_, not}
@@ -8,6 +8,7 @@ use lib.ListN.{length, getD}
 use lib.Dec.{leb, eqb, ltb}
 use Rattle.element.specs.Octets.{if}
 use Rattle.element.specs.Answer.{Answer, accepted, _>>=_, _>>_, refused}
+use Rattle.component.specs.Table.{width, held}
 use Rattle.operation.specs.Judge.{judge, countNamed}
 use Rattle.operation.specs.declared.Judged as J
 use Rattle.operation.specs.declared.Judged.the-variants as JV
@@ -83,7 +84,7 @@ sound row n one other = apart n (keysIn row) && (between one other row && (eqb o
 -- ---- a run of parameters
 -- the item of entry `i`, marked by `i`
 unfoldable pub itemAt : (table : List ℕ) (i : ℕ) → Item
-itemAt t i = record { is = key (getD t (4 * i) 0) (getD t (4 * i + 1) 0); mark = i }
+itemAt t i = record { is = key (held t i .number) (held t i .form); mark = i }
 
 -- `count` entries from `i` on
 unfoldable pub itemsFrom : (table : List ℕ) (i count : ℕ) → List Item
@@ -113,4 +114,5 @@ judgedIn (JV.Both entry) = refused 14 entry
 -- what the row says of the entries of a table, where the table has room for them
 unfoldable pub said : (kind specifier count : ℕ) (table : List ℕ) → Answer ℕ
 said kind specifier count table =
-    if (leb count 64 && leb (4 * count) (length table)) (verdict kind specifier (itemsFrom table 0 count)) (accepted 0)
+    if (leb count 64 && leb (width * count) (length table)) (verdict kind specifier (itemsFrom table 0 count))
+    (accepted 0)

@@ -6,13 +6,13 @@ use Rattle.component.proofs.composing.entry_stands.Statement.{statement
 use Rattle.component.proofs.composing.entry_stands.Tie as tie
 
 returns : tie.Need-returns
-returns c = no-number _ _ _ (c .if1 .taken)
+returns c = no-number _ _ (c .if1 .taken)
 
 returns-2 : tie.Need-returns-2
-returns-2 c = no-form _ _ _ (c .before .before .if1 .left) (c .if2 .taken)
+returns-2 c = no-form _ _ (c .before .before .if1 .left) (c .if2 .taken)
 
 returns-3 : tie.Need-returns-3
-returns-3 c = rw (c .before .before .wide .ensures .0, c .wide2 .ensures .0) (by-place _ _ _ (c .before .before .before .before .before .before .if1 .left) (c .before .before .before .before .if2 .left))
+returns-3 c = rw (c .before .before .wide .ensures .0, c .wide2 .ensures .0) (by-place _ _ (c .before .before .before .before .before .before .if1 .left) (c .before .before .before .before .if2 .left))
 
 pub entry-stands-spec : {M : Type 1} → statement M
 entry-stands-spec =

@@ -5,7 +5,7 @@ use mathlib.Core.Path.{_≡_}
 use lib.ListN.{length}
 use Rattle.component.specs.Composed.{setOf}
 use Rattle.component.specs.Table.{parametersFrom}
-use Rattle.component.proofs.Counting.{stands}
+use Rattle.component.proofs.Entries.{stands}
 use Rattle.component.proofs.Emission.{rest, rest-all, rest-none, room-for, more-put}
 use borrow.Author.Needs.{needs}
 use native.Mathlib.Omega.{arith}
@@ -29,7 +29,7 @@ put-parameter-requires c κs =
     let one = two .before .before in
     let turn = one .before .before in
     let head = turn .before in
-    let s = stands _ _ _ (head .before .before .before .before .pre .2 _ (turn .entries-test .taken)) in (
+    let s = stands (head .before .before .before .before .pre .2 _ (turn .entries-test .taken)) in (
       s .number,
       s .form,
       omega (arith, s .content),
