@@ -1,5 +1,5 @@
 -- The layout from its steps, wherever the component starts: where its parts stand, and what it comes to by the head's answer.
-use Prim.Native.Nat.{ℕ, _+_, _<_, _≤_}
+use Prim.Native.Nat.{ℕ, zero, suc, _+_, _<_, _≤_}
 use mathlib.Core.Path.{_≡_, refl, sym}
 use mathlib.Core.List.{List}
 use lib.ListN.{length, getD}
@@ -8,16 +8,15 @@ use borrow.Author.Tests.{le-leb, lt-ltb}
 use native.Mathlib.Omega.{arith}
 use Rattle.element.specs.Octets.{Octets, AreOctets}
 use Rattle.element.specs.Answer.{Answer, accepted, refused}
-use Rattle.element.proofs.Reading.{same}
+use Rattle.element.proofs.Reading.{most, same}
 use Rattle.component.specs.declared.Heading as G
-use Rattle.component.specs.Table.{Entry}
+use Rattle.component.specs.Table.{Entry, next}
 use Rattle.component.specs.Layout.{Span, sizeOf, contents, wanted, setAt, Head, operation, invoke, result, headFrom, headAt, parameterAt, parameterFrom, parameters, Layout, layoutBehind, layoutAt}
 use Rattle.component.specs.Outline.{headingOf, headed, headingsAt}
 use Rattle.component.proofs.Ends.{Ends, gives, given, then, below, at-most, equal, either}
 use Rattle.component.proofs.Asking.{Any, any}
 use Rattle.component.proofs.Taken.{taken, passed, stopped}
 use Rattle.component.proofs.Inside.{Placed, wanted-inside, set-inside, parameter-inside}
-use Rattle.component.proofs.Walk.{parameters-few}
 
 -- the set reaches to the end of the octets, and the specifier's place, 0 in a RESULT, is one of theirs
 pub record Bounded (s : Octets) (h : Head) : Type 0 where
@@ -38,6 +37,16 @@ parameter-within s at h k = simp (le-leb (length s) 4096, lt-ltb at (length s))
 pub parameter-placed : (s : Octets) → AreOctets s → {at : ℕ} {e : Entry} → parameterFrom s at ≡ accepted e → Placed at (length s) e
 unfolding parameterFrom
 parameter-placed s o {at} q = parameter-inside s o (passed (ltb at (length s)) _ (length s) (passed (leb (length s) 4096) 2 0 q .1) .1)
+
+-- ---- no more parameters than there is room for
+parameters-few : (s : Octets) (end room at : ℕ) → Ends (λ es. length es ≤ room) Any (parameters room s at end)
+unfolding parameters
+parameters-few s end zero at = at-most Any (λ _. tt) λ (_ : end ≤ at). gives (omega arith)
+parameters-few s end (suc room) at =
+    most (Ends (λ es. length es ≤ suc room) Any) (λ (_ : end ≤ at). gives (omega arith)) λ (_ : at < end).
+    then (any (parameterAt s at end)) λ e r.
+    then (parameters-few s end room (next e)) λ es f.
+    gives (omega arith)
 
 -- ---- the head, and the layout behind it
 module _ (s : Octets) (o : AreOctets s) where

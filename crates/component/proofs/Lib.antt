@@ -4,7 +4,6 @@ pub mod Parts
 pub mod Fitting
 pub mod Ends
 pub mod Inside
-pub mod Walk
 pub mod Refusing
 pub mod Laying
 pub mod Composes
