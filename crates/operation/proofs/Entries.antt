@@ -1,10 +1,12 @@
 -- The entries of a table that are left from one on, and those before it: how each search over them begins, goes on and ends.
 -- Assumes nothing.
 use Prim.Native.Nat.{ℕ, zero, suc, _+_, _-_, _<_, _≤_}
-use mathlib.Core.Path.{_≡_}
-use mathlib.Core.Bool.{Bool, true, false}
+use mathlib.Core.Path.{_≡_, refl, sym, _∙_}
+use mathlib.Core.Bool.{Bool, true, false, _||_, or-true}
 use mathlib.Core.List.{List, [], _∷_}
+use lib.Dec.{eqb}
 use borrow.Author.Tests.{eq-eqb, ne-eqb}
+use native.Mathlib.Decide.{decLt}
 use native.Mathlib.Omega.{arith}
 use native.Mathlib.Nat.{sub-zero}
 use native.Mathlib.Numerals.{add-one}
@@ -39,17 +41,30 @@ module _ (t : List ℕ) where
   unfolding earlier
   one-more at = rw add-one
 
-  pub one-less : (at : ℕ) → 0 < at → earlier t at ≡ itemAt t (at - 1) ∷ earlier t (at - 1)
-  unfolding earlier
-  one-less zero h = absurd (omega arith)
-  one-less (suc n) h = let s : suc n - 1 ≡ n = omega arith in rw s
+  -- the first entry with the key of the entry at `at` is that one, or an earlier one
+  module _ {first at j k : ℕ} (f : j ≡ itemAt t first .is) where
+    pub not-yet : k ≡ itemAt t at .is → (j ≡ k → ⊥) → first ≤ at → first < at
+    not-yet g n h = go (decLt first at)
+      where
+        go : Dec (first < at) → first < at
+        go (yes l) = l
+        go (no l) = let e : first ≡ at = omega arith in absurd (n (f ∙ rw e (sym g)))
+
+  pub none-before : (k : ℕ) → occurs k (earlier t 0) ≡ false
+  unfolding earlier occurs
+  none-before k = refl
+
+  pub before : (at : ℕ) {first k : ℕ} → first < at → k ≡ itemAt t first .is → true ≡ occurs k (earlier t at)
+  unfolding earlier occurs
+  before zero h e = absurd (omega arith)
+  before (suc n) {first} {k} h e = go (decLt first n) λ l. before n l e
+    where
+      go : Dec (first < n) → (first < n → true ≡ occurs k (earlier t n)) → true ≡ (eqb (itemAt t n .is) k || occurs k (earlier t n))
+      go (yes l) later = rw (← later l) (sym (or-true (eqb (itemAt t n .is) k)))
+      go (no l) later = let q : first ≡ n = omega arith in rw (eq-eqb (itemAt t n .is) k (sym (rw q at e)))
 
 -- whether a key occurs in `x` or in the items behind it
 module _ {x : Item} {xs ys : List Item} (e : xs ≡ x ∷ ys) {j k : ℕ} (f : j ≡ x .is) where
-  pub found : j ≡ k → true ≡ occurs k xs
-  unfolding occurs
-  found h = rw e (simp (← f, eq-eqb j k h))
-
   pub passed : (j ≡ k → ⊥) → occurs k ys ≡ occurs k xs
   unfolding occurs
   passed h = rw e (simp (← f, ne-eqb j k h))

@@ -16,6 +16,7 @@ use Rattle.operation.specs.inner.Firsts.{onceCounted}
 use Rattle.operation.proofs.Entries as E
 use Rattle.operation.proofs.Entries.{rest, earlier, all, over, more}
 use Rattle.operation.proofs.Repeats.{left}
+use Rattle.operation.proofs.Repeats as R
 use Rattle.operation.proofs.Lines.{self}
 use Rattle.operation.proofs.Sets.{each, empty, one-more}
 
@@ -75,7 +76,7 @@ module _ (names t : List ℕ) where
 
       module _ (m : holds names k ≡ true) (h : holds seen k ≡ false) where
         pub not-before : (not (repeats k) && occurs k (earlier t at)) ≡ false
-        not-before = let o : occurs k (earlier t at) ≡ false = sym (rw m) ∙ sym (n k) ∙ h in rw o (and-false (not (repeats k)))
+        not-before = let o : occurs k (earlier t at) ≡ false = sym (rw m) ∙ sym (n k) ∙ h in R.not-before k _ o
 
         pub noted-now : k / 64 < length seen → Notes (set seen (k / 64) (getD seen (k / 64) 0 + 2 ^ (k % 64))) (at + 1)
         noted-now l = step (set seen (k / 64) (getD seen (k / 64) 0 + 2 ^ (k % 64))) λ j. one-more seen k h l j ∙ by j (eqb k j) refl

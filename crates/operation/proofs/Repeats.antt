@@ -27,10 +27,8 @@ pub digits : (k : ℕ) (seen : List Item) → k ≡ 8 → (not (repeats k) && oc
 unfolding repeats key
 digits k seen h = simp (eq-eqb k 8 h)
 
-pub not-before : (k : ℕ) (seen : List Item) (t : List ℕ) (before : ℕ) → occurs k seen ≡ occurs k (earlier t before) → before ≤ 0 →
-    (not (repeats k) && occurs k seen) ≡ false
-unfolding earlier occurs
-not-before k seen t before e h = let z : before ≡ 0 = omega arith in rw (e, z, and-false)
+pub not-before : (k : ℕ) (seen : List Item) → occurs k seen ≡ false → (not (repeats k) && occurs k seen) ≡ false
+not-before k seen e = rw e (and-false (not (repeats k)))
 
 one-named : (n m : ℕ) (a : Answer Unit) → _≡_ {A = Answer ℕ} (a >> accepted (n + 1 + m)) (a >> accepted (n + (1 + m)))
 one-named n m (accepted u) = ap accepted (omega arith)

@@ -1,14 +1,15 @@
 -- `operation::note` meets its contract. The invariant: the whole answer is what is left of it, by the laws of `Repeats`, and of the entries so far
--- those that are named are noted, by the laws of `Noting`. Where an entry's key was noted the search for an earlier entry goes back from the entry:
--- the key occurred where it did among those that are left.
+-- those that are named are noted, by the laws of `Noting`. Where an entry's key was noted, the first entry with that key is searched for: none that
+-- was passed has it, and the entry itself does.
 -- Assumes nothing.
 use Prim.Native.Nat.{ℕ, _-_, _/_, _%_, _<_, _≤_}
-use mathlib.Core.Path.{_≡_, refl, sym, _∙_}
+use mathlib.Core.Path.{_≡_, sym, _∙_}
+use mathlib.Core.Bool.{false}
 use lib.ListN.{length, length-set, length-replicate}
 use native.Mathlib.Omega.{arith}
 use borrow.Author.Needs.{needs}
 use Rattle.operation.specs.Judge.{occurs}
-use Rattle.operation.proofs.Entries.{earlier, one-less, found, passed}
+use Rattle.operation.proofs.Entries.{earlier, one-more, not-yet, none-before, before, passed}
 use Rattle.operation.proofs.Repeats as R
 use Rattle.operation.proofs.Sets.{inside, set-there, clear-there, shifted, word-room, Words, empty-words, still-words}
 use Rattle.operation.proofs.Noting as N
@@ -16,10 +17,10 @@ use Rattle.operation.proofs.engine.note.Statement.{statement}
 use Rattle.operation.proofs.engine.note.Tie as tie
 
 abbrev Inv-loop : tie.InvT-loop
-Inv-loop names table count seen at named next key word bit noted before₀ before = (before ≤ at) × (occurs key (earlier table at) ≡ occurs key (earlier table before))
+Inv-loop names table count seen at named next key word bit noted first₀ first = (first ≤ at) × (occurs key (earlier table first) ≡ false)
 
 abbrev μ-loop : tie.MeasureT-loop
-μ-loop names table count seen at named next key word bit noted before₀ before = before
+μ-loop names table count seen at named next key word bit noted first₀ first = at - first
 
 abbrev Inv-parameters : tie.InvT-parameters
 Inv-parameters names table count seen₀ at₀ named₀ seen at named =
@@ -46,10 +47,17 @@ array-read-noted : tie.Need-array-read-noted Inv-loop μ-loop Inv-parameters μ-
 array-read-noted c = let i = inside (c .before .before .before .before .before .before .before .args .names .now) _ (sym (c .before .has .ensures) ∙ c .if2 .taken) in omega arith
 
 loop-holds : tie.Need-loop-holds Inv-loop μ-loop Inv-parameters μ-parameters
-loop-holds c = (search needs, refl)
+loop-holds c = (search needs, none-before _ _)
+
+loop-less : tie.Need-loop-less Inv-loop μ-loop Inv-parameters μ-parameters
+loop-less c = omega (arith, not-yet _ (c .before .key-at2 .ensures) (c .before .before .before .before .before .before .before .key-at .ensures) (c .if5 .taken) (c .before .before .loop .inv .0))
 
 loop-again : tie.Need-loop-again Inv-loop μ-loop Inv-parameters μ-parameters
-loop-again c = (search needs, c .before .before .before .loop .inv .1 ∙ sym (passed (one-less _ _ (c .before .before .loop-test .taken)) (c .before .key-at2 .ensures) (c .if5 .left)))
+loop-again c =
+    let l = c .before .before .loop in (
+      omega (arith, not-yet _ (c .before .key-at2 .ensures) (c .before .before .before .before .before .before .before .key-at .ensures) (c .if5 .taken) (l .inv .0)),
+      sym (passed (one-more _ _) (c .before .key-at2 .ensures) (c .if5 .taken)) ∙ l .inv .1,
+    )
 
 add-seen : tie.Need-add-seen Inv-loop μ-loop Inv-parameters μ-parameters
 add-seen c =
@@ -66,15 +74,16 @@ array-write-seen c = let i = inside (c .before .before .before .before .before .
 
 parameters-again : tie.Need-parameters-again Inv-loop μ-loop Inv-parameters μ-parameters
 parameters-again c =
-    let a = c .before .before .before .before .before .before .before .before .before .before .before .args in
-    let l = c .before .before .before .before .before .before .before .before .parameters in
-    let k = c .before .before .before .before .before .before .key-at .ensures in
-    let h = sym (c .before .before .before .before .before .has .ensures) ∙ c .before .before .before .before .if2 .taken in (
+    let a = c .before .before .before .before .before .before .before .before .before .before .before .before .before .args in
+    let l = c .before .before .before .before .before .before .before .before .before .before .parameters in
+    let k = c .before .before .before .before .before .before .before .before .key-at .ensures in
+    let h = sym (c .before .before .before .before .before .before .before .has .ensures) ∙ c .before .before .before .before .before .before .if2 .taken in
+    let e : c .before .before .before .loop .first ≡ l .at = omega arith in (
       search needs,
       search needs,
       l .inv .2,
-      N.noted-before (a .names .now) (a .table .now) (l .seen) (l .at) (l .inv .3) k (set-there (l .seen) _ (c .before .before .before .if3 .taken)),
-      λ row m. l .inv .4 row m ∙ sym (R.fresh row (a .table .now) (a .count) (l .named) (l .at) (c .before .before .before .before .before .before .before .if1 .left) k (sym (sym (m _) ∙ h)) (R.not-before _ _ (a .table .now) _ (c .before .loop .inv .1) (c .loop-test .left))),
+      N.noted-before (a .names .now) (a .table .now) (l .seen) (l .at) (l .inv .3) k (set-there (l .seen) _ (c .before .before .before .before .before .if3 .taken)),
+      λ row m. l .inv .4 row m ∙ sym (R.fresh row (a .table .now) (a .count) (l .named) (l .at) (c .before .before .before .before .before .before .before .before .before .if1 .left) k (sym (sym (m _) ∙ h)) (R.not-before _ _ (rw e at (c .before .before .before .loop .inv .1)))),
       l .inv .5,
     )
 
@@ -140,7 +149,7 @@ returns-2 c =
     let h = sym (c .before .before .before .before .before .before .before .has .ensures) ∙ c .before .before .before .before .before .before .if2 .taken in
     record {
       counted = λ row m. R.again row (a .table .now) (a .count) (l .named) (l .at) (c .before .before .before .before .before .before .before .before .before .if1 .left) k (sym (sym (m _) ∙ h)) (R.not-digits _ (c .before .before .before .before .if4 .taken))
-          (found (one-less _ _ (c .before .before .loop-test .taken)) (c .before .key-at2 .ensures) (c .if5 .taken) ∙ sym (c .before .before .before .loop .inv .1))
+          (before _ _ (c .if6 .taken) (sym (c .before .if5 .left) ∙ c .before .before .key-at2 .ensures))
           ∙ sym (l .inv .4 row m);
       noted = λ _ _. tt;
     }
@@ -159,7 +168,8 @@ note-spec =
     array-read-noted
     (λ c. search needs) (λ c. search needs)
     loop-holds
-    (λ c. search needs) (λ c κs. search needs) (λ c. search needs)
+    (λ c κs. search needs) (λ c. search needs)
+    loop-less
     loop-again
     (λ c. search needs)
     add-seen
