@@ -37,6 +37,7 @@ pub record Shows (s : Octets) (e : Entry) (p : Parameter) : Type 0 where
   pub start : e .start ≡ length (before ++ identifier ++ field)
   pub size : e .size ≡ length (p .content)
 
+-- two lists of one length, and `R` holds of each two that stand at one index
 pub data Pairwise {A B : Type 0} (R : A → B → Type 0) : List A → List B → Type 0 where
   none : Pairwise R [] []
   more : {a : A} {b : B} {xs : List A} {ys : List B} → R a b → Pairwise R xs ys → Pairwise R (a ∷ xs) (b ∷ ys)

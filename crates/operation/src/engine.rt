@@ -68,7 +68,7 @@ fn last_of(one: u64, other: u64, table: &[u16], count: usize) -> usize
 // ---- the judgement
 
 // 12: the first entry that occurred before, of those that the row names and may not repeat. Each that the row names is
-// noted, and one that is not noted did not occur before. The search for the first with its key ends at the entry itself.
+// noted, and one that is not noted did not occur before. The first with its key is at the latest the entry itself.
 pub(crate) fn note(names: &[u64], table: &[u16], count: usize) -> Notes
     requires { ⌜ (width * count ≤ length (now table)) × (count ≤ 64) × (length (now names) ≤ 13) ⌝ }
     ensures { λ r. ⌜ Walked (r .repeat) (now (names .entry)) (r .seen) (itemsFrom (now (table .entry)) 0 count) ⌝ }
