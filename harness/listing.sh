@@ -60,6 +60,17 @@ expect 'a cut input' $? 0 ''
 (cat crates/listing/stdout; echo cut) >"$dir/cut"
 same 'a cut input' "$dir/listed" "$dir/cut"
 
+# an error, a reject with a parameter, and an error with a problem in place of its error code
+{
+    printf '\001\000\012\353\010\317\001\005\324\001\201\362\000'
+    printf '\001\000\014\354\012\317\000\325\002\001\001\362\002\205\000'
+    printf '\001\000\012\353\010\317\001\005\325\001\201\362\000'
+} >"$dir/failures"
+printf '%s\n' 'item answer detail named other' '1 0 0 0 0' '2 0 0 0 1' '3 21 5 0 0' >"$dir/failures_listed"
+./roadquill "$dir/failures" >"$dir/listed" 2>"$dir/said"
+expect 'errors and rejects' $? 0 ''
+same 'errors and rejects' "$dir/listed" "$dir/failures_listed"
+
 ./roadquill "$dir/none" 2>"$dir/said"
 expect 'a file that is not there' $? 1 "roadquill: there is no file $dir/none"
 ./roadquill docs 2>"$dir/said"

@@ -1,8 +1,8 @@
 /*
  * Replays a stream of cases (its form stands at the head of cases.rs in
- * second/src) against the functions that the macros READ and WRITE name:
+ * second/src) against the functions that the macros READ, WRITE and NAME name:
  *
- *   gcc -O2 -Wall -Wextra -DREAD=read_it -DWRITE=write_it replay.c LIBRARY -o replay
+ *   gcc -O2 -Wall -Wextra -DREAD=read_it -DWRITE=write_it -DNAME=name_it replay.c LIBRARY -o replay
  *   ./replay FILE          (or the stream on standard input)
  *
  * A macro that is not given leaves its cases out. Checked for each case: the
@@ -32,9 +32,14 @@ extern uint64_t READ(const uint8_t *component, size_t octets, uint8_t specifier,
 
 #ifdef WRITE
 extern uint64_t WRITE(uint8_t type, uint8_t id_count, uint8_t id_first, uint8_t id_second,
-                      uint8_t specifier, size_t entries, const uint16_t *table, size_t numbers,
+                      uint8_t code_first, uint8_t code_second, size_t entries,
+                      const uint16_t *table, size_t numbers,
                       const uint8_t *source, size_t source_octets,
                       uint8_t *output, size_t output_octets);
+#endif
+
+#ifdef NAME
+extern uint64_t NAME(uint8_t code, uint8_t *name, size_t octets);
 #endif
 
 #if !defined READ && !defined WRITE
@@ -145,6 +150,16 @@ static void load_numbers(struct buffer *b, const uint8_t *octets, size_t count)
 }
 #endif
 
+#if defined WRITE || defined NAME
+/* What an output or a name goes to, as it is before the call. */
+static void fill(struct buffer *b, size_t count)
+{
+    make_room(b, count);
+    for (size_t i = 0; i < count; i++)
+        b->use[i] = (uint8_t)(i * 167 + 13);
+}
+#endif
+
 static void print_octets(const char *name, const uint8_t *octets, size_t count)
 {
     printf("%s (%zu octets):", name, count);
@@ -238,7 +253,7 @@ static void replay_read(uint64_t index)
 static void replay_write(uint64_t index)
 {
     static struct buffer table, source, output;
-    const uint8_t *head = take(5);
+    const uint8_t *head = take(6);
     size_t entries = take_number(8);
     size_t numbers = take_number(4);
     const uint8_t *given_numbers = take(2 * numbers);
@@ -254,16 +269,15 @@ static void replay_write(uint64_t index)
 #ifdef WRITE
     load_numbers(&table, given_numbers, numbers);
     load(&source, given_source, source_octets);
-    make_room(&output, output_octets);
-    for (size_t i = 0; i < output_octets; i++)
-        output.use[i] = (uint8_t)(i * 167 + 13);
+    fill(&output, output_octets);
     guard(&table);
     guard(&source);
     guard(&output);
     memcpy(output.keep, after, changed);
     const uint16_t *table_numbers = (const uint16_t *)(void *)table.use;
-    uint64_t got = WRITE(head[0], head[1], head[2], head[3], head[4], entries, table_numbers,
-                         numbers, source.use, source_octets, output.use, output_octets);
+    uint64_t got = WRITE(head[0], head[1], head[2], head[3], head[4], head[5], entries,
+                         table_numbers, numbers, source.use, source_octets, output.use,
+                         output_octets);
     unguard(&table);
     unguard(&source);
     unguard(&output);
@@ -273,7 +287,7 @@ static void replay_write(uint64_t index)
     differs |= wrong(&output, "output") != NULL;
     if (differs) {
         printf("case %" PRIu64 ", write, %zu entries\n", index, entries);
-        print_octets("type, ID count, ID octets, specifier", head, 5);
+        print_octets("type, ID count, ID octets, code", head, 6);
         print_numbers("table", (uint16_t *)(void *)table.keep, numbers);
         print_octets("source", given_source, source_octets);
         print_results(expected, got);
@@ -284,6 +298,37 @@ static void replay_write(uint64_t index)
 #else
     (void)table, (void)source, (void)output, (void)index, (void)head, (void)entries;
     (void)given_numbers, (void)given_source, (void)expected, (void)after;
+#endif
+}
+
+static void replay_name(uint64_t index)
+{
+    static struct buffer name;
+    uint8_t code = (uint8_t)take_number(1);
+    size_t octets = take_number(4);
+    uint64_t expected = take_number(8);
+    size_t changed = take_number(4);
+    const uint8_t *after = take(changed);
+
+    if (changed > octets)
+        stop("more octets change than there are");
+#ifdef NAME
+    fill(&name, octets);
+    guard(&name);
+    memcpy(name.keep, after, changed);
+    uint64_t got = NAME(code, name.use, octets);
+    unguard(&name);
+    int differs = got != expected;
+    differs |= wrong(&name, "name") != NULL;
+    if (differs) {
+        printf("case %" PRIu64 ", name of error %u\n", index, code);
+        print_results(expected, got);
+        print_octets("buffer expected", name.keep, octets);
+        print_octets("buffer got", name.use, octets);
+        exit(1);
+    }
+#else
+    (void)name, (void)index, (void)code, (void)expected, (void)after;
 #endif
 }
 
@@ -313,7 +358,7 @@ static void read_stream(const char *name)
 
 int main(int count, char **words)
 {
-    uint64_t reads = 0, writes = 0;
+    uint64_t reads = 0, writes = 0, names = 0;
 
     read_stream(count > 1 ? words[1] : NULL);
     for (;;) {
@@ -323,6 +368,8 @@ int main(int count, char **words)
             replay_read(reads++);
         else if (kind == 'W')
             replay_write(writes++);
+        else if (kind == 'N')
+            replay_name(names++);
         else if (kind == 'E')
             break;
         else
@@ -339,6 +386,11 @@ int main(int count, char **words)
     printf("%" PRIu64 " writes alike\n", writes);
 #else
     printf("%" PRIu64 " writes left out\n", writes);
+#endif
+#ifdef NAME
+    printf("%" PRIu64 " names alike\n", names);
+#else
+    printf("%" PRIu64 " names left out\n", names);
 #endif
     return 0;
 }

@@ -31,7 +31,7 @@ struct call {
     const uint8_t *octets;
     size_t count;
     uint8_t specifier;
-    uint8_t head[5];
+    uint8_t head[6];  /* type, count of ID octets, ID octets, octets of the code */
     size_t entries;
     const uint16_t *table;
     size_t numbers;
@@ -94,10 +94,27 @@ static void put_identifier(unsigned number)
         put(number & 0x7F);
 }
 
+/* The element between ID and set: how many octets, and the octets. A REJECT
+ * has its first problem octet in the code's low eight bits. */
+static size_t code_size(unsigned type)
+{
+    return type == ROADQUILL_RESULT ? 0 : type == ROADQUILL_ERROR ? 3 : 4;
+}
+
+static void put_code(unsigned type, unsigned code)
+{
+    if (type == ROADQUILL_INVOKE)
+        put(0xD1), put(2), put(9), put(code);
+    else if (type == ROADQUILL_ERROR)
+        put(0xD4), put(1), put(code);
+    else if (type == ROADQUILL_REJECT)
+        put(0xD5), put(2), put(code & 0xFF), put(code >> 8);
+}
+
 /* A component of `total` octets (0: as many as it takes) with these numbers,
  * each with `each` octets of contents; what is left over to `total` goes to
  * the first parameters, one octet more each, or to the last. */
-static void component(unsigned type, unsigned specifier, const unsigned *numbers, size_t count,
+static void component(unsigned type, unsigned code, const unsigned *numbers, size_t count,
                       size_t each, size_t total)
 {
     size_t lengths[64], set = 0, body, i, extra = 0;
@@ -108,7 +125,7 @@ static void component(unsigned type, unsigned specifier, const unsigned *numbers
             lengths[i] = each + extra / count + (i < extra % count);
             set += identifier_size(numbers[i]) + field(lengths[i]) + lengths[i];
         }
-        body = 3 + (type == ROADQUILL_INVOKE ? 4 : 0) + 1 + field(set) + set;
+        body = 3 + code_size(type) + 1 + field(set) + set;
         if (total == 0 || 1 + field(body) + body >= total)
             break;
         extra++;
@@ -119,8 +136,7 @@ static void component(unsigned type, unsigned specifier, const unsigned *numbers
     put(type);
     put_length(body);
     put(0xCF), put(1), put(5);
-    if (type == ROADQUILL_INVOKE)
-        put(0xD1), put(2), put(9), put(specifier);
+    put_code(type, code);
     put(0xF2);
     put_length(set);
     for (i = 0; i < count; i++) {
@@ -167,6 +183,10 @@ static void make(const char *name)
     } else if (strcmp(name, "61-digits") == 0) {
         count = numbers_of(numbers, location, 3, 64, 4);
         component(ROADQUILL_INVOKE, 15, numbers, count, 3, 0);
+    } else if (strcmp(name, "error") == 0) {
+        component(ROADQUILL_ERROR, 0x88, back, 5, 3, 0);
+    } else if (strcmp(name, "reject") == 0) {
+        component(ROADQUILL_REJECT, 0x0302, back, 5, 3, 0);
     } else if (name[0] == 'p') {
         /* so many parameters of three octets, InterSystemSMSPage RESULT */
         count = numbers_of(numbers, page, 2, (size_t)atoi(name + 1), 0);
@@ -201,7 +221,8 @@ static void add_component(const char *name)
     c->head[1] = roadquill_id_count(got);
     c->head[2] = roadquill_id_first(got);
     c->head[3] = roadquill_id_second(got);
-    c->head[4] = roadquill_specifier(got);
+    c->head[4] = roadquill_code_first(got);
+    c->head[5] = roadquill_code_second(got);
     c->entries = roadquill_all(got);
     c->table = entries;
     c->numbers = ROADQUILL_NUMBERS;
@@ -245,10 +266,10 @@ static int wants(size_t *accepted, size_t *refused, unsigned answer)
     return ++*accepted;
 }
 
-static void add_stream(const char *file, int writes)
+static void load_stream(const char *file)
 {
     FILE *f = fopen(file, "rb");
-    size_t room = 1 << 24, accepted = 0, refused = 0;
+    size_t room = 1 << 24;
 
     stream = malloc(room);
     if (f == NULL || stream == NULL)
@@ -257,48 +278,75 @@ static void add_stream(const char *file, int writes)
     if (stream_octets == room)
         stop("the stream is too long");
     fclose(f);
+}
+
+/* Each takes a case from the stream and gives the answer that it expects. */
+
+static unsigned take_read(struct call *c)
+{
+    uint64_t result;
+
+    c->specifier = (uint8_t)take_number(1);
+    c->count = take_number(4);
+    c->octets = take(c->count);
+    c->numbers = take_number(4);
+    result = take_number(8);
+    take(2 * take_number(4));
+    return roadquill_answer(result);
+}
+
+static unsigned take_write(struct call *c)
+{
+    uint16_t *numbers;
+    uint64_t result;
+    size_t i;
+
+    memcpy(c->head, take(sizeof c->head), sizeof c->head);
+    c->entries = take_number(8);
+    c->numbers = take_number(4);
+    numbers = malloc(2 * c->numbers + 2);
+    if (numbers == NULL)
+        stop("no memory");
+    for (i = 0; i < c->numbers; i++)
+        numbers[i] = (uint16_t)take_number(2);
+    c->table = numbers;
+    c->source_octets = take_number(4);
+    c->source = take(c->source_octets);
+    c->output_octets = take_number(4);
+    result = take_number(8);
+    take(take_number(4));
+    return roadquill_answer(result);
+}
+
+/* The name of an error is not measured. */
+static void skip_name(void)
+{
+    take(1 + 4 + 8);
+    take(take_number(4));
+}
+
+static void add_stream(const char *file, int writes)
+{
+    size_t accepted = 0, refused = 0;
+
+    load_stream(file);
     for (;;) {
         uint64_t kind = take_number(1);
         struct call c;
+        unsigned answer;
+        int fits;
 
         memset(&c, 0, sizeof c);
         if (kind == 'E')
             break;
-        if (kind == 'R') {
-            uint64_t answer;
-
-            c.specifier = (uint8_t)take_number(1);
-            c.count = take_number(4);
-            c.octets = take(c.count);
-            c.numbers = take_number(4);
-            answer = take_number(8);
-            take(2 * take_number(4));
-            if (!writes && call_count < MOST && c.count <= 4200
-                && wants(&accepted, &refused, (unsigned)(answer & 0xFF)))
-                calls[call_count++] = c;
-        } else {
-            uint64_t answer;
-            size_t i;
-            uint16_t *numbers;
-
-            memcpy(c.head, take(5), 5);
-            c.entries = take_number(8);
-            c.numbers = take_number(4);
-            numbers = malloc(2 * c.numbers + 2);
-            if (numbers == NULL)
-                stop("no memory");
-            for (i = 0; i < c.numbers; i++)
-                numbers[i] = (uint16_t)take_number(2);
-            c.table = numbers;
-            c.source_octets = take_number(4);
-            c.source = take(c.source_octets);
-            c.output_octets = take_number(4);
-            answer = take_number(8);
-            take(take_number(4));
-            if (writes && call_count < MOST && c.output_octets <= sizeof output
-                && wants(&accepted, &refused, (unsigned)(answer & 0xFF)))
-                calls[call_count++] = c;
+        if (kind == 'N') {
+            skip_name();
+            continue;
         }
+        answer = kind == 'R' ? take_read(&c) : take_write(&c);
+        fits = kind == 'R' ? !writes && c.count <= 4200 : writes && c.output_octets <= sizeof output;
+        if (fits && call_count < MOST && wants(&accepted, &refused, answer))
+            calls[call_count++] = c;
     }
 }
 
@@ -310,8 +358,8 @@ static uint64_t call(char function, const struct call *c)
     case 'r':
         return roadquill_read(c->octets, c->count, c->specifier, table, ROADQUILL_NUMBERS);
     case 'w':
-        return roadquill_write(c->head[0], c->head[1], c->head[2], c->head[3], c->head[4], c->entries,
-                               c->table, c->numbers, c->source, c->source_octets, output,
+        return roadquill_write(c->head[0], c->head[1], c->head[2], c->head[3], c->head[4], c->head[5],
+                               c->entries, c->table, c->numbers, c->source, c->source_octets, output,
                                c->output_octets);
     case 'p':
         return plain_read(c->octets, c->count, c->specifier, table, ROADQUILL_NUMBERS);

@@ -3,14 +3,17 @@
  * row of the operation. Numbers and details are those of the scope paper.
  *
  * Packed result: octet 0 is the answer. Refused: octets 1 to 4 the detail.
- * Accepted: octets 1 to 7 are type, count of ID octets, first and second ID
- * octet (0 where absent), specifier, count of all, count of named.
+ * Accepted: octet 1 is the type, 2 and 3 the ID octets, 4 and 5 the octets of
+ * the code (0 where absent), and 6 and 7 a number: 16,384 times the count of
+ * ID octets, plus 128 times the count of all parameters, plus that of named.
  */
 #include <stddef.h>
 #include <stdint.h>
 
 #define INVOKE 0xE9
 #define RESULT 0xEA
+#define ERROR 0xEB
+#define REJECT 0xEC
 
 #define MAX_OCTETS 4096
 #define MAX_PARAMETERS 64
@@ -18,6 +21,24 @@
 #define MIN_NUMBERS (MAX_PARAMETERS * ENTRY_NUMBERS)
 
 #define DIGITS 4
+
+/* What a type has before its set: how many ID octets, and the element of its
+ * code, with the refusal where it is another or of another length; 0: none. */
+struct kind {
+    uint8_t type;
+    uint8_t least_id;
+    uint8_t most_id;
+    uint8_t element;
+    uint8_t length;
+    uint8_t refusal;
+};
+
+static const struct kind kinds[] = {  /* from INVOKE on */
+    { INVOKE, 0, 2, 0xD1, 2, 7 },
+    { RESULT, 1, 1, 0, 0, 0 },
+    { ERROR, 1, 1, 0xD4, 1, 21 },
+    { REJECT, 0, 1, 0xD5, 2, 21 },
+};
 
 /* A row: `named` holds first the parameters that must occur, in order, then
  * the others. Of a choice the first member stands among those that must
@@ -57,11 +78,11 @@ struct parameter {
 
 struct reading {
     const uint8_t *octets;
+    const struct kind *kind;
     uint64_t refusal;  /* packed, 0 while there is none */
-    uint8_t type;
     uint8_t id_count;
     uint8_t id[2];
-    uint8_t specifier;
+    uint8_t code[2];
     size_t specifier_place;
     size_t count;
     size_t named;
@@ -127,7 +148,7 @@ static int read_id(struct reading *r, size_t *at, size_t end)
 
     if (!read_element(r, 0xCF, 6, at, end, &length))
         return 0;
-    if (length > 2 || (r->type == RESULT && length != 1))
+    if (length < r->kind->least_id || length > r->kind->most_id)
         return refuse(r, 6, place);
     r->id_count = (uint8_t)length;
     r->id[0] = length > 0 ? r->octets[*at] : 0;
@@ -136,18 +157,28 @@ static int read_id(struct reading *r, size_t *at, size_t end)
     return 1;
 }
 
-static int read_operation(struct reading *r, size_t *at, size_t end)
+/* The element of the code: of an INVOKE the family, 9, and the specifier, of
+ * an ERROR the error code, of a REJECT the two problem octets. */
+static int read_code(struct reading *r, size_t *at, size_t end)
 {
+    const struct kind *kind = r->kind;
+    const uint8_t *contents;
     size_t place = *at;
     size_t length;
 
-    if (!read_element(r, 0xD1, 7, at, end, &length))
+    if (!read_element(r, kind->element, kind->refusal, at, end, &length))
         return 0;
-    if (length != 2 || r->octets[*at] != 9)
-        return refuse(r, 7, place);
-    r->specifier_place = *at + 1;
-    r->specifier = r->octets[*at + 1];
-    *at += 2;
+    contents = r->octets + *at;
+    if (length != kind->length || (kind->type == INVOKE && contents[0] != 9))
+        return refuse(r, kind->refusal, place);
+    if (kind->type == INVOKE) {
+        r->specifier_place = *at + 1;
+        r->code[0] = contents[1];
+    } else {
+        r->code[0] = contents[0];
+        r->code[1] = length > 1 ? contents[1] : 0;
+    }
+    *at += length;
     return 1;
 }
 
@@ -211,7 +242,7 @@ static int read_structure(struct reading *r, size_t end)
         return refuse(r, 5, at + length);
     if (!read_id(r, &at, end))
         return 0;
-    if (r->type == INVOKE && !read_operation(r, &at, end))
+    if (r->kind->element != 0 && !read_code(r, &at, end))
         return 0;
     if (!read_element(r, 0xF2, 8, &at, end, &length))
         return 0;
@@ -242,9 +273,15 @@ static int find_named(const struct row *row, const struct parameter *one)
     return -1;
 }
 
+/* An ERROR and a REJECT have no row: every parameter is other. */
+static int has_row(uint8_t type)
+{
+    return type == INVOKE || type == RESULT;
+}
+
 static int check_row(struct reading *r)
 {
-    const struct row *row = find_row(r->type, r->specifier);
+    const struct row *row = find_row(r->kind->type, r->code[0]);
     uint16_t seen[8] = { 0 };  /* place of the first occurrence */
     size_t choice_first = 0, choice_second = 0;
     size_t i;
@@ -278,37 +315,52 @@ static int check_row(struct reading *r)
     return 1;
 }
 
+static void fill(const struct reading *r, uint16_t *table)
+{
+    size_t i;
+
+    for (i = 0; i < r->count; i++) {
+        uint16_t *entry = table + ENTRY_NUMBERS * i;
+
+        entry[0] = r->list[i].number;
+        entry[1] = r->list[i].constructor;
+        entry[2] = r->list[i].start;
+        entry[3] = r->list[i].length;
+        entry[4] = r->list[i].place;
+    }
+}
+
+static uint64_t pack(const struct reading *r)
+{
+    uint64_t counts = 16384 * (uint64_t)r->id_count + 128 * r->count + r->named;
+
+    return (uint64_t)r->kind->type << 8 | (uint64_t)r->id[0] << 16 | (uint64_t)r->id[1] << 24
+         | (uint64_t)r->code[0] << 32 | (uint64_t)r->code[1] << 40 | counts << 48;
+}
+
 uint64_t plain_read(const uint8_t *component, size_t octets, uint8_t specifier,
                     uint16_t *table, size_t numbers)
 {
     struct reading r;
-    size_t i;
 
     if (numbers < MIN_NUMBERS)
         return 1;
     if (octets == 0 || octets > MAX_OCTETS)
         return 2;
-    if (component[0] != INVOKE && component[0] != RESULT)
+    if (component[0] < INVOKE || component[0] > REJECT)
         return 3;
     r.octets = component;
+    r.kind = &kinds[component[0] - INVOKE];
     r.refusal = 0;
-    r.type = component[0];
-    r.specifier = specifier;
+    r.code[0] = specifier;
+    r.code[1] = 0;
     r.specifier_place = 0;
     r.count = 0;
     r.named = 0;
-    if (!read_structure(&r, octets) || !check_row(&r))
+    if (!read_structure(&r, octets))
         return r.refusal;
-    for (i = 0; i < r.count; i++) {
-        uint16_t *entry = table + ENTRY_NUMBERS * i;
-
-        entry[0] = r.list[i].number;
-        entry[1] = r.list[i].constructor;
-        entry[2] = r.list[i].start;
-        entry[3] = r.list[i].length;
-        entry[4] = r.list[i].place;
-    }
-    return (uint64_t)r.type << 8 | (uint64_t)r.id_count << 16 | (uint64_t)r.id[0] << 24
-         | (uint64_t)r.id[1] << 32 | (uint64_t)r.specifier << 40
-         | (uint64_t)r.count << 48 | (uint64_t)r.named << 56;
+    if (has_row(r.kind->type) && !check_row(&r))
+        return r.refusal;
+    fill(&r, table);
+    return pack(&r);
 }

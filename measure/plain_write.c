@@ -15,6 +15,8 @@
 
 #define ANSWER(number, detail) ((uint64_t)(number) | (uint64_t)(detail) << 8)
 
+enum { INVOKE = 0xE9, RESULT = 0xEA, ERROR = 0xEB, REJECT = 0xEC };
+
 /* The rows as text: type, specifier, then the numbers. A number with `!` must
  * occur, `a/b!` is a choice. */
 static const struct {
@@ -22,18 +24,18 @@ static const struct {
     uint8_t specifier;
     const char *parameters;
 } rows[] = {
-    { 0xE9, 4, "5! 6! 8! 2! 3! 1" },
-    { 0xEA, 4, "5!" },
-    { 0xE9, 13, "9! 8/242! 21! 17! 22! 32 123" },
-    { 0xEA, 13, "22!" },
-    { 0xEA, 14, "" },
-    { 0xE9, 15, "1! 4! 21! 22! 32 123" },
-    { 0xEA, 26, "" },
-    { 0xE9, 32, "1! 9! 8! 21 22 32 242" },
-    { 0xE9, 37, "1! 6! 2! 242" },
-    { 0xEA, 64, "4" },
-    { 0xE9, 101, "105! 116! 8 9 242" },
-    { 0xEA, 101, "105 153" },
+    { INVOKE, 4, "5! 6! 8! 2! 3! 1" },
+    { RESULT, 4, "5!" },
+    { INVOKE, 13, "9! 8/242! 21! 17! 22! 32 123" },
+    { RESULT, 13, "22!" },
+    { RESULT, 14, "" },
+    { INVOKE, 15, "1! 4! 21! 22! 32 123" },
+    { RESULT, 26, "" },
+    { INVOKE, 32, "1! 9! 8! 21 22 32 242" },
+    { INVOKE, 37, "1! 6! 2! 242" },
+    { RESULT, 64, "4" },
+    { INVOKE, 101, "105! 116! 8 9 242" },
+    { RESULT, 101, "105 153" },
 };
 
 static const char *find_row(uint8_t type, uint8_t specifier)
@@ -158,12 +160,14 @@ static uint8_t *put_entry(uint8_t *out, const uint16_t *entry, const uint8_t *so
     return out + entry[3];
 }
 
-/* The call's values, and the lengths of its set, its body and the whole. */
+/* The call's values, the octets between ID and set, and the lengths of those,
+ * of the set, the body and the whole. */
 struct writing {
     uint8_t type;
     uint8_t id_count;
     uint8_t id[2];
-    uint8_t specifier;
+    uint8_t code[4];
+    size_t code_octets;
     size_t entries;
     const uint16_t *table;
     const uint8_t *source;
@@ -171,6 +175,35 @@ struct writing {
     size_t body;
     size_t whole;
 };
+
+static int is_type(uint8_t type)
+{
+    return type == INVOKE || type == RESULT || type == ERROR || type == REJECT;
+}
+
+/* An ERROR and a REJECT have no row: every parameter is other. */
+static int has_row(uint8_t type)
+{
+    return type == INVOKE || type == RESULT;
+}
+
+static int id_allowed(uint8_t type, uint8_t count)
+{
+    if (type == INVOKE)
+        return count <= 2;
+    return count == 1 || (type == REJECT && count == 0);
+}
+
+/* The element that holds the code; a RESULT has none. */
+static void make_code(struct writing *w, uint8_t first, uint8_t second)
+{
+    const uint8_t operation[] = { 0xD1, 2, 9, first };
+    const uint8_t error[] = { 0xD4, 1, first };
+    const uint8_t problem[] = { 0xD5, 2, first, second };
+
+    w->code_octets = w->type == RESULT ? 0 : w->type == ERROR ? sizeof error : sizeof operation;
+    memcpy(w->code, w->type == INVOKE ? operation : w->type == ERROR ? error : problem, w->code_octets);
+}
 
 /* Asks 16 and 15 and counts the octets. */
 static uint64_t measure(struct writing *w, size_t source_octets)
@@ -183,7 +216,7 @@ static uint64_t measure(struct writing *w, size_t source_octets)
             return ANSWER(16, i);
         w->set += (entry[0] > 127 ? 3 : entry[0] > 30 ? 2 : 1) + with_length(entry[3]);
     }
-    w->body = 2 + w->id_count + (w->type == 0xE9 ? 4 : 0) + 1 + with_length(w->set);
+    w->body = 2 + w->id_count + w->code_octets + 1 + with_length(w->set);
     w->whole = 1 + with_length(w->body);
     return w->whole > 4096 ? ANSWER(15, w->whole) : 0;
 }
@@ -196,12 +229,8 @@ static void compose(const struct writing *w, uint8_t *out)
     *out++ = w->id_count;
     memcpy(out, w->id, w->id_count);
     out += w->id_count;
-    if (w->type == 0xE9) {
-        const uint8_t operation[] = { 0xD1, 0x02, 0x09, w->specifier };
-
-        memcpy(out, operation, sizeof operation);
-        out += sizeof operation;
-    }
+    memcpy(out, w->code, w->code_octets);
+    out += w->code_octets;
     *out++ = 0xF2;
     out = put_length(out, w->set);
     for (size_t i = 0; i < w->entries; i++)
@@ -209,25 +238,27 @@ static void compose(const struct writing *w, uint8_t *out)
 }
 
 uint64_t plain_write(uint8_t type, uint8_t id_count, uint8_t id_first, uint8_t id_second,
-                     uint8_t specifier, size_t entries, const uint16_t *table, size_t numbers,
+                     uint8_t code_first, uint8_t code_second, size_t entries,
+                     const uint16_t *table, size_t numbers,
                      const uint8_t *source, size_t source_octets,
                      uint8_t *output, size_t output_octets)
 {
-    struct writing w = { type, id_count, { id_first, id_second }, specifier,
+    struct writing w = { type, id_count, { id_first, id_second }, { 0 }, 0,
                          entries, table, source, 0, 0, 0 };
     uint64_t fault;
 
-    if (type != 0xE9 && type != 0xEA)
+    if (!is_type(type))
         return ANSWER(3, 0);
-    if (id_count > 2 || (type == 0xEA && id_count != 1))
+    if (!id_allowed(type, id_count))
         return ANSWER(6, 0);
     if (entries > 64)
         return ANSWER(10, 0);
     if (numbers < ENTRY_NUMBERS * entries)
         return ANSWER(1, 0);
+    make_code(&w, code_first, code_second);
     fault = measure(&w, source_octets);
-    if (fault == 0)
-        fault = check_row(find_row(type, specifier), table, entries);
+    if (fault == 0 && has_row(type))
+        fault = check_row(find_row(type, code_first), table, entries);
     if (fault != 0)
         return fault;
     if (output_octets < w.whole)

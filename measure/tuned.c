@@ -12,6 +12,8 @@
 
 #define INVOKE 0xE9
 #define RESULT 0xEA
+#define ERROR 0xEB
+#define REJECT 0xEC
 
 #define MAX_OCTETS 4096
 #define MAX_PARAMETERS 64
@@ -46,9 +48,12 @@ static const struct row rows[] = {
     { { 0, BIT(105), BIT(153) }, 0, { 0 }, 0, 0 },
 };
 
-/* One more than the place of its row: 0 where there is none. */
+/* One more than the place of its row: 0 where there is none. The empty row also serves there, and for an
+ * ERROR and a REJECT, which have no row to ask for. */
+#define EMPTY 5
+
 static const uint8_t invokes[256] = { [4] = 1, [13] = 3, [15] = 6, [32] = 7, [37] = 8, [101] = 10 };
-static const uint8_t results[256] = { [4] = 2, [13] = 4, [14] = 5, [26] = 5, [64] = 9, [101] = 11 };
+static const uint8_t results[256] = { [4] = 2, [13] = 4, [14] = EMPTY, [26] = EMPTY, [64] = 9, [101] = 11 };
 
 static uint64_t refusal(unsigned number, size_t detail)
 {
@@ -130,8 +135,8 @@ uint64_t tuned_read(const uint8_t *component, size_t octets, uint8_t specifier,
                     uint16_t *table, size_t numbers)
 {
     uint16_t entries[MIN_NUMBERS];
-    uint64_t seen[4] = { 0 }, wrong, id = 0;
-    size_t at, element, length, i, count = 0, named = 0, again = 0, operation = 0;
+    uint64_t seen[4] = { 0 }, wrong, id = 0, code = specifier;
+    size_t at, element, length, i, id_count, count = 0, named = 0, again = 0, operation = 0;
     const struct row *row;
     const uint64_t *names;
     unsigned type, which;
@@ -141,7 +146,7 @@ uint64_t tuned_read(const uint8_t *component, size_t octets, uint8_t specifier,
     if (octets == 0 || octets > MAX_OCTETS)
         return 2;
     type = component[0];
-    if (type != INVOKE && type != RESULT)
+    if (type < INVOKE || type > REJECT)
         return 3;
     at = length_at(component, 1, octets, &length);
     if (at == 0)
@@ -151,31 +156,45 @@ uint64_t tuned_read(const uint8_t *component, size_t octets, uint8_t specifier,
     element = at;
     if ((wrong = element_at(component, &at, octets, 0xCF, 6, &length)) != 0)
         return wrong;
-    if (type == INVOKE ? length > 2 : length != 1)
+    if (type == INVOKE ? length > 2 : length != 1 && !(type == REJECT && length == 0))
         return refusal(6, element);
-    id = length;
+    id_count = length;
     if (length > 0)
-        id |= (uint64_t)component[at] << 8;
+        id = component[at];
     if (length > 1)
-        id |= (uint64_t)component[at + 1] << 16;
+        id |= (uint64_t)component[at + 1] << 8;
     at += length;
+    element = at;
     if (type == INVOKE) {
-        element = at;
         if ((wrong = element_at(component, &at, octets, 0xD1, 7, &length)) != 0)
             return wrong;
         if (length != 2 || component[at] != 9)
             return refusal(7, element);
         operation = at + 1;
-        specifier = component[operation];
+        code = component[operation];
+        which = invokes[code];
         at += 2;
+    } else if (type == RESULT) {
+        which = results[specifier];
+    } else {
+        size_t wanted = type == ERROR ? 1 : 2;
+
+        if ((wrong = element_at(component, &at, octets, type == ERROR ? 0xD4 : 0xD5, 21, &length)) != 0)
+            return wrong;
+        if (length != wanted)
+            return refusal(21, element);
+        code = component[at];
+        if (wanted == 2)
+            code |= (uint64_t)component[at + 1] << 8;
+        which = EMPTY;
+        at += wanted;
     }
     if ((wrong = element_at(component, &at, octets, 0xF2, 8, &length)) != 0)
         return wrong;
     if (at + length != octets)
         return refusal(5, at + length);
 
-    which = type == INVOKE ? invokes[specifier] : results[specifier];
-    row = &rows[which == 0 ? 4 : which - 1];
+    row = &rows[which == 0 ? EMPTY - 1 : which - 1];
     names = row->names;
     for (; at < octets; count++) {
         uint16_t *entry;
@@ -221,5 +240,5 @@ uint64_t tuned_read(const uint8_t *component, size_t octets, uint8_t specifier,
     if (row->one != 0 && seen[row->one / 64] & BIT(row->one) && seen[row->other / 64] & BIT(row->other))
         return both(entries + ENTRY_NUMBERS * count, row);
     memcpy(table, entries, ENTRY_NUMBERS * count * sizeof *table);
-    return (uint64_t)type << 8 | id << 16 | (uint64_t)specifier << 40 | (uint64_t)count << 48 | (uint64_t)named << 56;
+    return (uint64_t)type << 8 | id << 16 | code << 32 | (uint64_t)(id_count << 14 | count << 7 | named) << 48;
 }

@@ -1,7 +1,7 @@
 """Single components: their octets, and what they are called on the page."""
 
 import tcap
-from tcap import INVOKE, identifier, element
+from tcap import ERROR, INVOKE, REJECT, identifier, element
 
 HEAD = bytes.fromhex("CF 01 05 D1 02 09 04")
 EMPTY = bytes.fromhex("85 00")
@@ -19,6 +19,11 @@ REST_OF_A = CIRCUIT + MIN + CELLS
 def back(parameters, head=HEAD, behind=b""):
     """An INVOKE of HandoffBack."""
     return element(bytes([INVOKE]), head + element(b"\xF2", parameters) + behind)
+
+
+def failure(kind, *parts):
+    """An ERROR or REJECT of these octets."""
+    return element(bytes([kind]), bytes.fromhex("".join(parts)))
 
 
 # What it is, component, specifier of the INVOKE seen before (None: no such INVOKE seen), specifier handed to the
@@ -45,7 +50,59 @@ CHARTS = [
     ("the same as a FlashRequest RESULT", bytes.fromhex("EA 07 CF 01 05 F2 02") + EMPTY, 26, 26, 1),
 ]
 
+TWO = "F2 08 89 04 01 02 03 04 85 00"
+
+# Errors and rejects: what it is, component, whether its INVOKE is seen before.
+FAILURES = [
+    ("E: EB 08 CF 01 05 D4 01 81 F2 00", failure(ERROR, "CF0105", "D40181", "F200"), True),
+    ("E, its INVOKE not seen", failure(ERROR, "CF0105", "D40181", "F200"), False),
+    ("E with an ESN and a ChannelData of no octets", failure(ERROR, "CF0105", "D40181", TWO), True),
+    ("the same, its INVOKE not seen", failure(ERROR, "CF0105", "D40181", TWO), False),
+    ("E, error octet 8D", failure(ERROR, "CF0105", "D4018D", "F200"), True),
+    ("E, error octet 00", failure(ERROR, "CF0105", "D40100", "F200"), True),
+    ("E, component ID of no octets", failure(ERROR, "CF00", "D40181", "F200"), True),
+    ("E, component ID of two octets", failure(ERROR, "CF020506", "D40181", "F200"), True),
+    ("E, D3 for D4", failure(ERROR, "CF0105", "D30181", "F200"), True),
+    ("E, D5 02 01 01 for D4 01 81", failure(ERROR, "CF0105", "D5020101", "F200"), True),
+    ("E without D4 01 81", failure(ERROR, "CF0105", "F200"), True),
+    ("E, D4 00", failure(ERROR, "CF0105", "D400", "F200"), True),
+    ("E, D4 02 81 82", failure(ERROR, "CF0105", "D4028182", "F200"), True),
+    ("E, length of D4 as 81 01", failure(ERROR, "CF0105", "D4810181", "F200"), True),
+    ("E, length of D4 as 05", failure(ERROR, "CF0105", "D40581", "F200"), True),
+    ("E, F0 for F2", failure(ERROR, "CF0105", "D40181", "F000"), True),
+    ("E without F2 00", failure(ERROR, "CF0105", "D40181"), True),
+    ("E, set F2 04 89 04 01 02", failure(ERROR, "CF0105", "D40181", "F20489040102"), True),
+    ("E, 85 00 behind the set", failure(ERROR, "CF0105", "D40181", "F200", "8500"), True),
+    ("R: EC 08 CF 00 D5 02 01 01 F2 00", failure(REJECT, "CF00", "D5020101", "F200"), True),
+    ("S: R with component ID CF 01 05", failure(REJECT, "CF0105", "D5020101", "F200"), True),
+    ("S with an ESN and a ChannelData of no octets", failure(REJECT, "CF0105", "D5020101", TWO), True),
+    ("S, problem octets 06 01", failure(REJECT, "CF0105", "D5020601", "F200"), True),
+    ("S, problem octets FF 01", failure(REJECT, "CF0105", "D502FF01", "F200"), True),
+    ("S, component ID of two octets", failure(REJECT, "CF020506", "D5020101", "F200"), True),
+    ("S, D4 01 81 for D5 02 01 01", failure(REJECT, "CF0105", "D40181", "F200"), True),
+    ("S without D5 02 01 01", failure(REJECT, "CF0105", "F200"), True),
+    ("S, D5 00", failure(REJECT, "CF0105", "D500", "F200"), True),
+    ("S, D5 01 01", failure(REJECT, "CF0105", "D50101", "F200"), True),
+    ("S, D5 03 00 01 01", failure(REJECT, "CF0105", "D503000101", "F200"), True),
+    ("S, length of D5 as 81 02", failure(REJECT, "CF0105", "D581020101", "F200"), True),
+    ("S, length of D5 as 06", failure(REJECT, "CF0105", "D5060101", "F200"), True),
+    ("S, F0 for F2", failure(REJECT, "CF0105", "D5020101", "F000"), True),
+    ("S without F2 00", failure(REJECT, "CF0105", "D5020101"), True),
+    ("S, set F2 04 89 04 01 02", failure(REJECT, "CF0105", "D5020101", "F20489040102"), True),
+    ("S, 85 00 behind the set", failure(REJECT, "CF0105", "D5020101", "F200", "8500"), True),
+]
+
+# Table 6 of 000, from error octet 129 on.
+ERROR_NAMES = [
+    "UnrecognizedMIN", "UnrecognizedESN", "MSID/HLRMismatch", "OperationSequenceProblem", "ResourceShortage",
+    "OperationNotSupported", "TrunkUnavailable", "ParameterError", "SystemFailure", "UnrecognizedParameterValue",
+    "FeatureInactive", "MissingParameter", "UnrecognizedTMSI", "TMSI/VLRMismatch",
+]
+
 # The octets as 01 prints them: chart A, and A with a second 85 00 (lengths 20 and 17).
 A = "E9 1E CF 01 05 D1 02 09 04 F2 15 85 00 86 02 01 07 88 05 21 43 65 87 09 82 02 00 11 83 02 00 12"
 assert CHARTS[0][1] == bytes.fromhex(A)
 assert CHARTS[3][1] == bytes.fromhex(A.replace("E9 1E", "E9 20").replace("F2 15", "F2 17") + "85 00")
+# And those of order 2.
+assert FAILURES[0][1] == bytes.fromhex("EB 08 CF 01 05 D4 01 81 F2 00")
+assert FAILURES[19][1] == bytes.fromhex("EC 08 CF 00 D5 02 01 01 F2 00")

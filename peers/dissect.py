@@ -21,13 +21,14 @@ class Shown:
     start: int
     length: int
     name: str = ""
-    text: str = ""
     span: tuple = ()
 
 
 @dataclass
 class Seen:
     operation: str = ""
+    code: str = ""
+    missing: list = field(default_factory=list)
     shown: list = field(default_factory=list)
     unknown: list = field(default_factory=list)
     complaints: list = field(default_factory=list)
@@ -39,10 +40,10 @@ def version():
 
 
 def dissect(folder, cases):
-    """One Seen for each (component, specifier). A RESULT follows an empty INVOKE of its transaction."""
+    """One Seen for each (component, specifier). But for an INVOKE it follows an empty one of its transaction."""
     frames, wanted = [], []
     for transaction, (octets, specifier) in enumerate(cases):
-        if octets[0] == tcap.RESULT and specifier is not None:
+        if octets[0] != tcap.INVOKE and specifier is not None:
             frames.append(tcap.package(tcap.component(tcap.INVOKE, octets[4:5], specifier, b""), transaction))
         frames.append(tcap.package(octets, transaction))
         wanted.append((len(frames), len(frames[-1]) - len(octets)))
@@ -65,9 +66,16 @@ def dissect(folder, cases):
 
 def read_packet(packet, offset):
     seen = Seen()
-    for message in packet.iter("field"):
-        if message.get("name") == "_ws.expert.message":
-            seen.complaints.append(message.get("show"))
+    for node in packet.iter("field"):
+        name, shown = node.get("name"), node.get("showname", "")
+        if name == "_ws.expert.message":
+            seen.complaints.append(node.get("show"))
+        elif name in ("ansi_tcap.ec_private", "ansi_tcap.rejectProblem"):
+            seen.code = shown.split(": ", 1)[1]
+        elif name == "ansi_tcap.paramSet_element":
+            read_set(node, offset, seen)
+        if "<MISSING>" in shown:
+            seen.missing.append(shown)
     for node in packet.iterfind("proto[@name='ansi_map']/field"):
         if node.get("name").startswith("ansi_map."):
             seen.operation = node.get("name")[9:].removesuffix("_element")
@@ -89,7 +97,6 @@ def read_set(node, offset, seen):
             last = seen.shown[-1]
             inner = child[0] if name == "ansi_map.msid" and len(child) else child
             last.name = inner.get("name")[9:].removesuffix("_element")
-            last.text = child.get("showname")
             last.span = (pos - offset, size)
         elif name == "" and "Unknown field" in child.get("show", ""):
             first = int(child.get("value")[:2], 16)

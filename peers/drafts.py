@@ -1,7 +1,7 @@
 """Components for the comparison, drawn from the operation rows, with contents of sizes that the dissector expects."""
 
 import tcap
-from tcap import INVOKE, RESULT
+from tcap import ERROR, INVOKE, REJECT, RESULT
 
 # Type, specifier, operation, must occur (a tuple is a choice), also named.
 ROWS = [
@@ -88,7 +88,8 @@ def named_numbers(dice, must, also):
 
 
 def id_octets(dice, kind):
-    return dice.octets(dice.below(3) if kind == INVOKE else 1)
+    most = {INVOKE: 2, REJECT: 1}.get(kind, 0)
+    return dice.octets(dice.below(most + 1) if most else 1)
 
 
 def named_only(dice, row):
@@ -98,18 +99,27 @@ def named_only(dice, row):
     return tcap.component(kind, id_octets(dice, kind), specifier, b"".join(parts))
 
 
+def stranger(dice, registered):
+    """A parameter of one of these numbers, or of a number from 1,000 up in either form."""
+    if dice.below(2):
+        number = registered[dice.below(len(registered))]
+        return tcap.element(tcap.identifier(number), contents(dice, number))
+    number, form = 1000 + dice.below(15384), dice.below(2)
+    return tcap.element(tcap.identifier(number, form), dice.octets(dice.below(300)))
+
+
 def with_others(dice, row):
     """One to three parameters more that the row does not name: registered ones, or numbers from 1,000 up."""
     kind, specifier, _, must, also = row
     named = {one for item in must for one in (item if isinstance(item, tuple) else [item])} | set(also)
     parts = [tcap.element(tcap.identifier(one), contents(dice, one)) for one in named_numbers(dice, must, also)]
-    strangers = sorted(set(NAMES) - named)
-    for _ in range(1 + dice.below(3)):
-        if dice.below(2):
-            number = strangers[dice.below(len(strangers))]
-            parts.append(tcap.element(tcap.identifier(number), contents(dice, number)))
-        else:
-            number, form = 1000 + dice.below(15384), dice.below(2)
-            parts.append(tcap.element(tcap.identifier(number, form), dice.octets(dice.below(300))))
+    parts += [stranger(dice, sorted(set(NAMES) - named)) for _ in range(1 + dice.below(3))]
     dice.shuffle(parts)
     return tcap.component(kind, id_octets(dice, kind), specifier, b"".join(parts))
+
+
+def failure(dice, kind):
+    """An ERROR or a REJECT of any code with none to six parameters: no row names any."""
+    code = dice.below(256 if kind == ERROR else 65536)
+    parts = [stranger(dice, sorted(NAMES)) for _ in range(dice.below(7))]
+    return tcap.component(kind, id_octets(dice, kind), code, b"".join(parts))

@@ -5,24 +5,15 @@ import sys
 import charts
 import dissect
 import drafts
+import failures
 import second
 import tcap
+from page import print_table, said
 
 EACH_ROW = 500
 SEED = 41
 READS = 20000
 READ_SEED = 7
-
-
-def print_table(heads, rows):
-    print("| " + " | ".join(heads) + " |")
-    print("|" + "---|" * len(heads))
-    for row in rows:
-        print("| " + " | ".join(f"{one:,}" if isinstance(one, int) else one for one in row) + " |")
-
-
-def short(complaint):
-    return " ".join(complaint.split(". Contact")[0].split()).removesuffix(" (Exception occurred)")
 
 
 def print_charts(folder, program):
@@ -31,10 +22,8 @@ def print_charts(folder, program):
     rows = []
     for (name, _, _, _, count), (answer, detail, named, other), one in zip(charts.CHARTS, answers, seen):
         ours = f"{answer}, detail {detail}" if answer else f"accepted, {named} named" + f", {other} other" * (other > 0)
-        visible = [shown for shown in one.shown if shown.name]
-        said = [shown.text for shown in visible if "<MISSING>" in shown.text]
-        said += [short(text) for text in dict.fromkeys(one.complaints)]
-        rows.append((name, ours, f"{len(visible)} of {count}", "; ".join(f"`{text}`" for text in said) or "nothing"))
+        visible = sum(bool(shown.name) for shown in one.shown)
+        rows.append((name, ours, f"{visible} of {count}", said(one)))
     print_table(["Component", "Roadquill", f"Shown by tshark {dissect.version()}", "What tshark says"], rows)
 
 
@@ -122,8 +111,9 @@ def entry(one):
     return (*one[1:], one[0])
 
 
-def print_any_contents(folder, program):
-    found = second.accepted(program, READS, READ_SEED)
+def print_any_contents(folder, readings):
+    found = [(octets, specifier, table) for octets, packed, specifier, table in readings
+             if packed & 0xFF == 0 and octets[0] in (tcap.INVOKE, tcap.RESULT)]
     walked = sum([number for one in tcap.walk(octets) for number in entry(one)] == table for octets, _, table in found)
     seen = dissect.dissect(folder, [(octets, specifier) for octets, specifier, _ in found])
     counts = [compare(octets, one) for (octets, _, _), one in zip(found, seen)]
@@ -148,7 +138,12 @@ def main(folder, program):
     print_charts(folder, program)
     print_zero(folder, program)
     print_rows(folder, program)
-    print_any_contents(folder, program)
+    readings = second.readings(program, READS, READ_SEED)
+    print_any_contents(folder, readings)
+    failures.print_charts(folder, program)
+    failures.print_names(folder)
+    failures.print_drawn(folder, program, compare)
+    failures.print_stream(folder, readings)
 
 
 main(*sys.argv[1:])

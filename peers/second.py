@@ -16,19 +16,18 @@ def listing(program, cases):
     return [tuple(int(word) for word in line.split()[1:]) for line in lines]
 
 
-def accepted(program, reads, seed):
-    """Component, specifier and the table's numbers of each accepted reading among `reads` cases."""
+def readings(program, reads, seed):
+    """Component, packed result, specifier handed in and the table's numbers of each of `reads` cases."""
     run = subprocess.run([program, "cases", str(reads), "0", str(seed)], capture_output=True, check=True)
     stream, at, found = run.stdout, 0, []
     for _ in range(reads):
-        kind, _, count = struct.unpack_from("<BBI", stream, at)
+        kind, specifier, count = struct.unpack_from("<BBI", stream, at)
         assert kind == ord("R")
         octets = stream[at + 6:at + 6 + count]
         at += 6 + count
         _, packed, count = struct.unpack_from("<IQI", stream, at)
         numbers = struct.unpack_from(f"<{count}H", stream, at + 16)
         at += 16 + 2 * count
-        if packed & 0xFF == 0:
-            found.append((octets, packed >> 40 & 0xFF, list(numbers)))
-    assert stream[at:] == b"E"
+        found.append((octets, packed, specifier, list(numbers)))
+    assert stream[at:at + 1] == b"N"  # names of errors follow
     return found

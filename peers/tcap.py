@@ -4,6 +4,8 @@ import struct
 
 INVOKE = 0xE9
 RESULT = 0xEA
+ERROR = 0xEB
+REJECT = 0xEC
 LINK_TYPE = 147
 
 
@@ -28,16 +30,26 @@ def element(octets, contents):
     return octets + length_field(len(contents)) + contents
 
 
-def component(kind, id_octets, specifier, parameters):
+def code_element(kind, code):
+    """What stands between ID and set. A REJECT's code is a number of two octets, the first one high."""
+    if kind == RESULT:
+        return b""
+    if kind == INVOKE:
+        return element(b"\xD1", bytes([9, code]))
+    if kind == ERROR:
+        return element(b"\xD4", bytes([code]))
+    return element(b"\xD5", code.to_bytes(2, "big"))
+
+
+def component(kind, id_octets, code, parameters):
     """`parameters` is the finished contents of the set F2."""
-    code = bytes([0xD1, 2, 9, specifier]) if kind == INVOKE else b""
-    body = element(b"\xCF", id_octets) + code + element(b"\xF2", parameters)
+    body = element(b"\xCF", id_octets) + code_element(kind, code) + element(b"\xF2", parameters)
     return element(bytes([kind]), body)
 
 
 def package(octets, transaction):
-    """QUERY WITH PERMISSION, or RESPONSE for a RESULT. The component ends where the package ends."""
-    kind = b"\xE4" if octets[0] == RESULT else b"\xE2"
+    """QUERY WITH PERMISSION for an INVOKE, else RESPONSE. The component ends where the package ends."""
+    kind = b"\xE2" if octets[0] == INVOKE else b"\xE4"
     number = element(b"\xC7", transaction.to_bytes(4, "big"))
     return element(kind, number + element(b"\xE8", octets))
 
@@ -73,7 +85,7 @@ def read_identifier(octets, at):
 def walk(octets):
     """Place, number, form, start and length of each parameter. It checks nothing: the component is accepted."""
     _, at = read_length(octets, 1)
-    for _ in range(2 if octets[0] == INVOKE else 1):
+    for _ in range(1 if octets[0] == RESULT else 2):
         length, start = read_length(octets, at + 1)
         at = start + length
     _, at = read_length(octets, at + 1)

@@ -12,7 +12,8 @@
 //!   u32 count of leading table numbers that changed, these numbers as u16
 //!
 //! 'W', a call of the writer:
-//!   u8 type, u8 id_count, u8 id_first, u8 id_second, u8 specifier
+//!   u8 type, u8 id_count, u8 id_first, u8 id_second
+//!   u8 code_first, u8 code_second
 //!   u64 entries
 //!   u32 table length in numbers, the numbers as u16
 //!   u32 source length, the octets
@@ -21,19 +22,29 @@
 //!   expected: u64 packed result
 //!   u32 count of leading output octets that changed, these octets
 //!
+//! 'N', a call for the name of an error:
+//!   u8 code
+//!   u32 length of the lent buffer; the harness fills it as it does an output
+//!   expected: u64 packed result
+//!   u32 count of leading octets that changed, these octets
+//!
 //! An entry of a table is 5 numbers: the parameter's number, 0 primitive or 1
 //! constructor, start of contents, length, and the place of the identifier,
 //! which a writer ignores.
 //!
 //! "Changed" means written: an entry a parameter, or the component's octets,
-//! when accepted, else 0. All other numbers and octets stay as filled.
+//! or the name's, when accepted, else 0. All other numbers and octets stay as
+//! filled.
 //!
 //! Packed result: octet 0 (least significant) is the answer, 0 accepted.
 //! Refused: octets 1 to 4 the detail, least significant first, the rest 0.
-//! Reader accepted: octets 1 to 7 are type, count of ID octets, first and
-//! second ID octet (0 where absent), specifier, count of all, count of named.
-//! Writer accepted: octets 1 to 4 the octet count, the rest 0.
+//! Reader accepted: octets 1 to 5 are type, first and second ID octet, first
+//! and second octet of the code (each 0 where absent); octets 6 and 7 are a
+//! number, least significant octet first: 16,384 times the count of ID octets,
+//! 128 times the count of all parameters, and the count of named ones.
+//! Writer accepted, or a name: octets 1 to 4 the octet count, the rest 0.
 
+use crate::errors;
 use crate::generate::{read_case, write_case, ReadCase, WriteCase};
 use crate::random::Random;
 use crate::reader::{self, ENTRY_NUMBERS};
@@ -101,7 +112,29 @@ pub fn stream(out: &mut impl Write, reads: u64, writes: u64, seed: u64) -> io::R
     for _ in 0..writes {
         put_write(out, &write_case(&mut random))?;
     }
+    put_names(out)?;
     out.write_all(b"E")
+}
+
+/// Every code, with buffers that its name fits and does not fit.
+fn put_names(out: &mut impl Write) -> io::Result<()> {
+    for code in 0..=u8::MAX {
+        let needed = errors::name(code).len();
+        for octets in [0, needed.saturating_sub(1), needed, needed + 1, 40] {
+            put_name(out, code, octets)?;
+        }
+    }
+    Ok(())
+}
+
+fn put_name(out: &mut impl Write, code: u8, octets: usize) -> io::Result<()> {
+    let mut buffer = output_before(octets);
+    let answer = errors::put_name(code, &mut buffer);
+    buffer.truncate(answer.unwrap_or(0));
+    out.write_all(&[b'N', code])?;
+    put_count(out, octets)?;
+    out.write_all(&writer::packed(&answer).to_le_bytes())?;
+    put_octets(out, &buffer)
 }
 
 fn put_count(out: &mut impl Write, count: usize) -> io::Result<()> {
@@ -135,7 +168,8 @@ fn put_write(out: &mut impl Write, case: &WriteCase) -> io::Result<()> {
     let (answer, changed) = answer_write(case);
     let head = case.head;
     out.write_all(&[b'W', head.kind, head.id_count])?;
-    out.write_all(&[head.id_first, head.id_second, head.specifier])?;
+    out.write_all(&[head.id_first, head.id_second])?;
+    out.write_all(&head.code)?;
     out.write_all(&(case.entries as u64).to_le_bytes())?;
     put_numbers(out, &case.table)?;
     put_octets(out, &case.source)?;

@@ -6,7 +6,7 @@ use crate::random::Random;
 use crate::reader::LONGEST;
 
 const SEED: u64 = 1;
-const DRAWN: usize = 600;
+const DRAWN: usize = 700;
 
 /// A drawn component of more octets is left out: the directed cases have
 /// those at the limits, and the file stays small.
@@ -58,11 +58,21 @@ const INVOKE_37: [u8; 16] = [
 ];
 const INVOKE_37_REFUSED: [u8; 10] = [0xE9, 0x08, 0xCF, 0x00, 0xD1, 0x02, 0x09, 0x25, 0xF2, 0x00];
 
+/// An ERROR and a REJECT whose codes would be specifiers, and an ERROR with a
+/// code too long.
+const ERROR_26: [u8; 12] = [
+    0xEB, 0x0A, 0xCF, 0x01, 0x05, 0xD4, 0x01, 0x1A, 0xF2, 0x02, 0x85, 0x00,
+];
+const REJECT_26: [u8; 10] = [0xEC, 0x08, 0xCF, 0x00, 0xD5, 0x02, 0x09, 0x1A, 0xF2, 0x00];
+const ERROR_REFUSED: [u8; 11] = [
+    0xEB, 0x09, 0xCF, 0x01, 0x05, 0xD4, 0x02, 0x09, 0x1A, 0xF2, 0x00,
+];
+
 /// What sets the specifier and what does not: it is 0 at the start, tag 2 has
-/// to have one octet, other tags are skipped, whatever they hold, and an
-/// INVOKE leaves it as it is.
+/// to have one octet, other tags are skipped, whatever they hold, and a
+/// component of any type leaves it as it is.
 fn put_directed_fields(octets: &mut Vec<u8>) {
-    let fields: [(u8, &[u8]); 22] = [
+    let fields: [(u8, &[u8]); 28] = [
         (1, &RESULT_4),
         (2, &[4]),
         (2, &[]),
@@ -82,6 +92,12 @@ fn put_directed_fields(octets: &mut Vec<u8>) {
         (1, &INVOKE_37),
         (1, &RESULT_4),
         (1, &INVOKE_37_REFUSED),
+        (1, &RESULT_4),
+        (1, &ERROR_26),
+        (1, &RESULT_4),
+        (1, &REJECT_26),
+        (1, &RESULT_4),
+        (1, &ERROR_REFUSED),
         (1, &RESULT_4),
         (2, &[26]),
         (1, &RESULT_4),

@@ -12,7 +12,9 @@ mod parts;
 mod row_cases;
 
 use crate::generate::draft::{identifier, Draft, Element};
-use crate::rows::{self, Identifier, Row, RESULT, ROWS};
+use crate::generate::Subject;
+use crate::rows::{self, Identifier, Row, ROWS};
+use crate::types::{ComponentType, RESULT};
 use lists::List;
 use std::collections::HashSet;
 
@@ -26,6 +28,7 @@ pub fn cases() -> Vec<Case> {
     let groups = [
         ROWS.iter().flat_map(of_row).collect(),
         names::every_specifier(),
+        names::errors_and_problems(),
         identifiers::cases(),
         layout::cases(),
         order::cases(),
@@ -55,6 +58,7 @@ fn of_row(row: &'static Row) -> Vec<Case> {
     cases.extend(cases_of(row, &names::lists(row)));
     cases.push(names::of_no_octets(row));
     cases.extend(names::other_callers(row));
+    cases.extend(names::not_asked(row));
     cases
 }
 
@@ -83,7 +87,11 @@ fn filling(count: usize) -> Vec<u8> {
 }
 
 fn draft(row: &'static Row, list: &[Identifier]) -> Draft {
-    Draft::of(row, list.iter().map(|one| parameter(*one)).collect())
+    draft_of(Subject::of_row(row), list)
+}
+
+fn draft_of(subject: Subject, list: &[Identifier]) -> Draft {
+    Draft::of(subject, list.iter().map(|one| parameter(*one)).collect())
 }
 
 /// A row that names nothing.
@@ -92,7 +100,8 @@ fn nameless() -> &'static Row {
 }
 
 /// A component of this type with an empty set.
-fn of_type(kind: u8) -> Draft {
-    let row = ROWS.iter().find(|row| row.kind == kind);
-    draft(row.expect("a row of each type"), &[])
+fn of_type(kind: &ComponentType) -> Draft {
+    let row = ROWS.iter().find(|row| row.kind == kind.octet);
+    let without_row = || Subject::new(kind.octet, [0x81, 0x01], nameless());
+    draft_of(row.map_or_else(without_row, Subject::of_row), &[])
 }

@@ -9,7 +9,8 @@ pub use read_cases::{read_case, ReadCase};
 pub use write_cases::{write_case, WriteCase};
 
 use crate::random::Random;
-use crate::rows::{self, Must, Row, DIGITS, INVOKE, RESULT, ROWS};
+use crate::rows::{self, Must, Row, DIGITS, ROWS};
+use crate::types::{self, Code, ComponentType, ERROR, INVOKE, REJECT, TYPES};
 
 /// Numbers at the edges of the three identifier forms, and others around the
 /// register's.
@@ -34,6 +35,54 @@ struct Drawn {
     length: usize,
 }
 
+/// What a component is drawn as. An ERROR or a REJECT, which has no row, gets
+/// parameters like those of any row.
+#[derive(Clone, Copy)]
+pub(crate) struct Subject {
+    pub kind: &'static ComponentType,
+    pub code: Code,
+    pub row: &'static Row,
+}
+
+impl Subject {
+    pub fn of_row(row: &'static Row) -> Subject {
+        Subject::new(row.kind, [row.specifier, 0], row)
+    }
+
+    pub fn new(kind: u8, code: Code, row: &'static Row) -> Subject {
+        let kind = types::of(kind);
+        Subject { kind, code, row }
+    }
+}
+
+/// Two of three with a row, of which there is more to ask.
+fn draw_subject(random: &mut Random) -> Subject {
+    let row = draw_row(random);
+    match random.below(100) {
+        0..=16 => Subject::new(ERROR, [draw_error(random, row), 0], row),
+        17..=33 => Subject::new(REJECT, draw_problem(random, row), row),
+        _ => Subject::of_row(row),
+    }
+}
+
+/// A code with a name, the specifier of a row, or any octet.
+fn draw_error(random: &mut Random, row: &Row) -> u8 {
+    match random.below(3) {
+        0 => random.between(129, 142) as u8,
+        1 => row.specifier,
+        _ => random.octet(),
+    }
+}
+
+/// Octets of a known problem, those that an operation code has, or any.
+fn draw_problem(random: &mut Random, row: &Row) -> Code {
+    match random.below(3) {
+        0 => [random.between(1, 5) as u8, random.between(1, 6) as u8],
+        1 => random.pick(&[[9, row.specifier], [row.specifier, 0]]),
+        _ => [random.octet(), random.octet()],
+    }
+}
+
 /// The row with a choice is the only way to 14, so it is drawn more often.
 fn draw_row(random: &mut Random) -> &'static Row {
     if random.percent(12) {
@@ -42,8 +91,8 @@ fn draw_row(random: &mut Random) -> &'static Row {
     &ROWS[random.below(ROWS.len())]
 }
 
-/// A component type and a specifier without a row, often ones of which the
-/// other component type has a row.
+/// A specifier without a row in this component type, often one of which
+/// another type has a row.
 fn draw_rowless(random: &mut Random, kind: u8) -> u8 {
     loop {
         let specifier = if random.percent(50) {
@@ -94,8 +143,20 @@ fn draw_named(random: &mut Random, number: u16) -> Drawn {
     }
 }
 
-/// Parameters that the row takes, in any order.
-fn draw_parameters(random: &mut Random, row: &Row) -> Vec<Drawn> {
+/// Parameters that are accepted, in any order.
+fn draw_parameters(random: &mut Random, subject: Subject) -> Vec<Drawn> {
+    let mut list = draw_for_row(random, subject.row);
+    if !subject.kind.has_row {
+        loosen(random, &mut list);
+    }
+    if random.percent(80) {
+        random.shuffle(&mut list);
+    }
+    list
+}
+
+/// Parameters that the row takes.
+fn draw_for_row(random: &mut Random, row: &Row) -> Vec<Drawn> {
     let mut list = Vec::new();
     for must in row.must {
         let number = match *must {
@@ -119,10 +180,17 @@ fn draw_parameters(random: &mut Random, row: &Row) -> Vec<Drawn> {
     while names_digits && random.percent(40) {
         list.push(draw_named(random, DIGITS));
     }
-    if random.percent(80) {
-        random.shuffle(&mut list);
-    }
     list
+}
+
+/// As the row would often refuse it: some left out, some again.
+fn loosen(random: &mut Random, list: &mut Vec<Drawn>) {
+    while !list.is_empty() && random.percent(40) {
+        list.remove(random.below(list.len()));
+    }
+    while !list.is_empty() && random.percent(40) {
+        list.push(random.pick(list));
+    }
 }
 
 /// Both members of the choice, wherever a row has one.
@@ -133,6 +201,10 @@ fn choice_members(row: &Row) -> Option<(u16, u16)> {
     })
 }
 
+fn draw_id_count(random: &mut Random, kind: &ComponentType) -> usize {
+    random.between(*kind.id_octets.start(), *kind.id_octets.end())
+}
+
 fn draw_kind(random: &mut Random) -> u8 {
-    random.pick(&[INVOKE, RESULT])
+    TYPES[random.below(TYPES.len())].octet
 }

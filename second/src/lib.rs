@@ -4,6 +4,7 @@
 pub mod cases;
 pub mod corpus;
 pub mod directed;
+pub mod errors;
 pub mod generate;
 pub mod listing;
 pub mod random;
@@ -11,4 +12,5 @@ pub mod reader;
 pub mod refusal;
 pub mod report;
 pub mod rows;
+pub mod types;
 pub mod writer;

@@ -1,7 +1,8 @@
 //! The reader: one component, checked from left to right.
 
 use crate::refusal::Refusal;
-use crate::rows::{self, Identifier, RowFault, INVOKE, RESULT};
+use crate::rows::{self, Identifier, RowFault};
+use crate::types::{self, Code, CodeElement, ComponentType};
 
 pub const LONGEST: usize = 4096;
 pub const MOST_PARAMETERS: usize = 64;
@@ -12,9 +13,7 @@ pub const ENTRY_NUMBERS: usize = 5;
 pub const TABLE_NUMBERS: usize = MOST_PARAMETERS * ENTRY_NUMBERS;
 
 const COMPONENT_ID: u8 = 0xCF;
-const OPERATION_CODE: u8 = 0xD1;
 const PARAMETER_SET: u8 = 0xF2;
-const FAMILY: u8 = 9;
 
 #[derive(Clone, Copy, Debug, PartialEq, Eq)]
 pub struct Accepted {
@@ -22,7 +21,7 @@ pub struct Accepted {
     pub id_count: u8,
     /// 0 where there is no such octet.
     pub id: [u8; 2],
-    pub specifier: u8,
+    pub code: Code,
     pub all: usize,
     pub named: usize,
     pub other: usize,
@@ -51,10 +50,10 @@ struct Parameter {
 
 /// What stands before the parameter set, and the set's contents.
 struct Frame {
-    kind: u8,
+    kind: &'static ComponentType,
     id: Contents,
-    /// Place of the specifier, in an INVOKE only.
-    specifier: Option<usize>,
+    /// Where the code stands; nowhere in a RESULT.
+    code: Option<Contents>,
     set: Contents,
 }
 
@@ -72,58 +71,65 @@ pub fn read(component: &[u8], specifier: u8, table: &mut [u16]) -> Answer {
     }
     let frame = read_frame(component)?;
     let parameters = read_parameters(component, frame.set)?;
-    let accepted = ask_row(component, specifier, &frame, &parameters)?;
+    let accepted = judge(component, specifier, &frame, &parameters)?;
     fill(table, &parameters);
     Ok(accepted)
 }
 
 fn read_frame(component: &[u8]) -> Result<Frame, Refusal> {
-    let kind = component[0];
-    if kind != INVOKE && kind != RESULT {
-        return Err(Refusal::new(3, 0, "type"));
-    }
+    let kind = types::find(component[0]).ok_or_else(|| Refusal::new(3, 0, "type"))?;
     let body = contents_to_the_end(component, 0, 1, component.len())?;
     let id = read_id(component, kind, body)?;
-    let (specifier, set_place) = if kind == INVOKE {
-        let operation = read_operation(component, id.end, body.end)?;
-        (Some(operation.start + 1), operation.end)
-    } else {
-        (None, id.end)
+    let code = match &kind.code {
+        Some(element) => Some(read_code(component, element, id.end, body.end)?),
+        None => None,
     };
+    let set_place = code.map_or(id.end, |code| code.end);
     let set = read_set(component, set_place, body.end)?;
     Ok(Frame {
         kind,
         id,
-        specifier,
+        code,
         set,
     })
 }
 
-fn read_id(component: &[u8], kind: u8, body: Contents) -> Result<Contents, Refusal> {
+fn read_id(component: &[u8], kind: &ComponentType, body: Contents) -> Result<Contents, Refusal> {
     let place = body.start;
     if wanted(component, place, body.end)? != COMPONENT_ID {
         return Err(Refusal::new(6, place, "identifier"));
     }
     let id = contents_within(component, place, place + 1, body.end)?;
-    let allowed = if kind == INVOKE { 0..=2 } else { 1..=1 };
-    if !allowed.contains(&id.count()) {
+    if !kind.id_octets.contains(&id.count()) {
         return Err(Refusal::new(6, place, "length"));
     }
     Ok(id)
 }
 
-fn read_operation(component: &[u8], place: usize, end: usize) -> Result<Contents, Refusal> {
-    if wanted(component, place, end)? != OPERATION_CODE {
-        return Err(Refusal::new(7, place, "identifier"));
+/// The operation code, error or problem element; answers where the code in
+/// it stands.
+fn read_code(
+    component: &[u8],
+    element: &CodeElement,
+    place: usize,
+    end: usize,
+) -> Result<Contents, Refusal> {
+    let refused = |why| Err(Refusal::new(element.refused_by, place, why));
+    if wanted(component, place, end)? != element.identifier {
+        return refused("identifier");
     }
-    let operation = contents_within(component, place, place + 1, end)?;
-    if operation.count() != 2 {
-        return Err(Refusal::new(7, place, "length"));
+    let contents = contents_within(component, place, place + 1, end)?;
+    if contents.count() != element.length() {
+        return refused("length");
     }
-    if component[operation.start] != FAMILY {
-        return Err(Refusal::new(7, place, "family"));
+    let start = contents.end - element.octets;
+    if component[contents.start..start] != *element.family {
+        return refused("family");
     }
-    Ok(operation)
+    Ok(Contents {
+        start,
+        end: contents.end,
+    })
 }
 
 fn read_set(component: &[u8], place: usize, end: usize) -> Result<Contents, Refusal> {
@@ -228,7 +234,7 @@ fn contents_within(
     })
 }
 
-/// As above, for E9, EA and F2, which must end where the parent ends.
+/// As above, for the component and F2, which must end where the parent ends.
 fn contents_to_the_end(
     component: &[u8],
     place: usize,
@@ -256,33 +262,47 @@ fn read_length(parent: &[u8], field: usize) -> Result<(usize, usize), Refusal> {
     }
 }
 
-/// Asks 11 to 14 and makes the accepted answer.
-fn ask_row(component: &[u8], specifier: u8, frame: &Frame, parameters: &[Parameter]) -> Answer {
-    let specifier = match frame.specifier {
-        Some(place) => component[place],
-        None => specifier,
+/// Makes the accepted answer, where there is no row or the row accepts.
+fn judge(component: &[u8], specifier: u8, frame: &Frame, parameters: &[Parameter]) -> Answer {
+    let code = match frame.code {
+        Some(code) => two_octets(component, code),
+        None => [specifier, 0],
     };
-    let row = rows::find(frame.kind, specifier)
-        .ok_or_else(|| Refusal::new(11, frame.specifier.unwrap_or(0), "row"))?;
+    let named = if frame.kind.has_row {
+        ask_row(frame, code[0], parameters)?
+    } else {
+        0
+    };
+    Ok(Accepted {
+        kind: frame.kind.octet,
+        id_count: frame.id.count() as u8,
+        id: two_octets(component, frame.id),
+        code,
+        all: parameters.len(),
+        named,
+        other: parameters.len() - named,
+    })
+}
+
+/// 0 for each octet that is not there.
+fn two_octets(component: &[u8], contents: Contents) -> [u8; 2] {
+    let mut octets = [0; 2];
+    octets[..contents.count()].copy_from_slice(&component[contents.start..contents.end]);
+    octets
+}
+
+/// Asks 11 to 14 and counts what the row names.
+fn ask_row(frame: &Frame, specifier: u8, parameters: &[Parameter]) -> Result<usize, Refusal> {
+    let place = frame.code.map_or(0, |code| code.start);
+    let row =
+        rows::find(frame.kind.octet, specifier).ok_or_else(|| Refusal::new(11, place, "row"))?;
     let list: Vec<Identifier> = parameters.iter().map(|one| one.identifier).collect();
     row.check(&list).map_err(|fault| match fault {
         RowFault::Repeat(index) => Refusal::new(12, parameters[index].place, "again"),
         RowFault::Missing(number) => Refusal::new(13, usize::from(number), "missing"),
         RowFault::Both(index) => Refusal::new(14, parameters[index].place, "both"),
     })?;
-    let named = row.count_named(&list);
-    let mut id = [0; 2];
-    let count = frame.id.count();
-    id[..count].copy_from_slice(&component[frame.id.start..frame.id.end]);
-    Ok(Accepted {
-        kind: frame.kind,
-        id_count: count as u8,
-        id,
-        specifier,
-        all: list.len(),
-        named,
-        other: list.len() - named,
-    })
+    Ok(row.count_named(&list))
 }
 
 /// An entry a parameter; the numbers behind them stay.
@@ -297,20 +317,23 @@ fn fill(table: &mut [u16], parameters: &[Parameter]) {
     }
 }
 
-/// Octet 0 the answer; accepted, octets 1 to 7 are type, count of ID octets,
-/// the two ID octets, specifier, count of all and count of named.
+/// Octet 0 the answer; accepted, octets 1 to 5 are type, the two ID octets
+/// and the two of the code, and octets 6 and 7 hold the counts.
 pub fn packed(answer: &Answer) -> u64 {
     match answer {
         Err(refusal) => refusal.packed(),
-        Ok(accepted) => u64::from_le_bytes([
-            0,
-            accepted.kind,
-            accepted.id_count,
-            accepted.id[0],
-            accepted.id[1],
-            accepted.specifier,
-            accepted.all as u8,
-            accepted.named as u8,
-        ]),
+        Ok(accepted) => {
+            let [low, high] = counts(accepted).to_le_bytes();
+            let [id_first, id_second] = accepted.id;
+            let [first, second] = accepted.code;
+            let kind = accepted.kind;
+            u64::from_le_bytes([0, kind, id_first, id_second, first, second, low, high])
+        }
     }
+}
+
+/// 16,384 times the count of ID octets, 128 times that of all, and named.
+fn counts(accepted: &Accepted) -> u16 {
+    let parameters = 128 * accepted.all + accepted.named;
+    16384 * u16::from(accepted.id_count) + parameters as u16
 }

@@ -1,7 +1,6 @@
 //! The operation rows and the questions asked of them (11 to 14).
 
-pub const INVOKE: u8 = 0xE9;
-pub const RESULT: u8 = 0xEA;
+use crate::types::{INVOKE, RESULT};
 
 /// Digits is the only named parameter that may repeat.
 pub const DIGITS: u16 = 4;

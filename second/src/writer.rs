@@ -2,21 +2,23 @@
 
 use crate::reader::ENTRY_NUMBERS;
 use crate::refusal::Refusal;
-use crate::rows::{self, Identifier, RowFault, INVOKE, RESULT};
+use crate::rows::{self, Identifier, RowFault};
+use crate::types::{self, Code, ComponentType};
 
 const LONGEST: usize = 4096;
 const MOST_ENTRIES: usize = 64;
 const HIGHEST_NUMBER: u16 = 16383;
 
 /// Everything that names the component apart from its entries. The count of
-/// ID octets may be any; only two are given, as no more are ever allowed.
+/// ID octets may be any; only two are given, as no more are ever allowed. The
+/// code's second octet is looked at in a REJECT only.
 #[derive(Clone, Copy, Debug, PartialEq, Eq)]
 pub struct Head {
     pub kind: u8,
     pub id_count: u8,
     pub id_first: u8,
     pub id_second: u8,
-    pub specifier: u8,
+    pub code: Code,
 }
 
 /// Accepted: the count of octets written.
@@ -44,7 +46,7 @@ pub fn write(
     source: &[u8],
     output: &mut [u8],
 ) -> Answer {
-    check_head(head)?;
+    let kind = check_head(head)?;
     if entries > MOST_ENTRIES {
         return Err(Refusal::new(10, 0, "entries"));
     }
@@ -52,29 +54,27 @@ pub fn write(
         return Err(Refusal::new(1, 0, "table"));
     }
     let list = take_entries(&table[..ENTRY_NUMBERS * entries], source)?;
-    let sizes = measure(head, &list);
+    let sizes = measure(kind, head, &list);
     if sizes.whole > LONGEST {
         return Err(Refusal::new(15, sizes.whole, too_long(&sizes)));
     }
-    ask_row(head, &list)?;
+    if kind.has_row {
+        ask_row(head, &list)?;
+    }
     if output.len() < sizes.whole {
         return Err(Refusal::new(17, sizes.whole, "output"));
     }
-    let octets = compose(head, &list, &sizes);
+    let octets = compose(kind, head, &list, &sizes);
     output[..octets.len()].copy_from_slice(&octets);
     Ok(octets.len())
 }
 
-fn check_head(head: Head) -> Result<(), Refusal> {
-    let allowed = match head.kind {
-        INVOKE => 0..=2,
-        RESULT => 1..=1,
-        _ => return Err(Refusal::new(3, 0, "type")),
-    };
-    if !allowed.contains(&head.id_count) {
+fn check_head(head: Head) -> Result<&'static ComponentType, Refusal> {
+    let kind = types::find(head.kind).ok_or_else(|| Refusal::new(3, 0, "type"))?;
+    if !kind.id_octets.contains(&usize::from(head.id_count)) {
         return Err(Refusal::new(6, 0, "length"));
     }
-    Ok(())
+    Ok(kind)
 }
 
 fn take_entries<'a>(table: &[u16], source: &'a [u8]) -> Result<Vec<Entry<'a>>, Refusal> {
@@ -132,18 +132,15 @@ fn element_size(identifier: usize, length: usize) -> usize {
     identifier + field_size(length) + length
 }
 
-fn measure(head: Head, list: &[Entry]) -> Sizes {
+fn measure(kind: &ComponentType, head: Head, list: &[Entry]) -> Sizes {
     let set = list
         .iter()
         .map(|one| element_size(identifier_size(one.identifier.number), one.contents.len()))
         .sum();
     let id = element_size(1, usize::from(head.id_count));
-    let operation = if head.kind == INVOKE {
-        element_size(1, 2)
-    } else {
-        0
-    };
-    let body = id + operation + element_size(1, set);
+    let code = kind.code.as_ref();
+    let code = code.map_or(0, |element| element_size(1, element.length()));
+    let body = id + code + element_size(1, set);
     Sizes {
         set,
         body,
@@ -160,7 +157,7 @@ fn too_long(sizes: &Sizes) -> &'static str {
 }
 
 fn ask_row(head: Head, list: &[Entry]) -> Result<(), Refusal> {
-    let row = rows::find(head.kind, head.specifier).ok_or_else(|| Refusal::new(11, 0, "row"))?;
+    let row = rows::find(head.kind, head.code[0]).ok_or_else(|| Refusal::new(11, 0, "row"))?;
     let identifiers: Vec<Identifier> = list.iter().map(|one| one.identifier).collect();
     row.check(&identifiers).map_err(|fault| match fault {
         RowFault::Repeat(index) => Refusal::new(12, index, "again"),
@@ -169,13 +166,14 @@ fn ask_row(head: Head, list: &[Entry]) -> Result<(), Refusal> {
     })
 }
 
-fn compose(head: Head, list: &[Entry], sizes: &Sizes) -> Vec<u8> {
+fn compose(kind: &ComponentType, head: Head, list: &[Entry], sizes: &Sizes) -> Vec<u8> {
     let mut octets = vec![head.kind];
     put_length(&mut octets, sizes.body);
     octets.extend([0xCF, head.id_count]);
     octets.extend(&[head.id_first, head.id_second][..usize::from(head.id_count)]);
-    if head.kind == INVOKE {
-        octets.extend([0xD1, 0x02, 0x09, head.specifier]);
+    if let Some(element) = &kind.code {
+        octets.extend([element.identifier, element.length() as u8]);
+        octets.extend(element.contents(head.code));
     }
     octets.push(0xF2);
     put_length(&mut octets, sizes.set);

@@ -1,7 +1,8 @@
-//! Every chart of the paper, starred or not, and the order of the numbers.
+//! Every chart of the paper, starred or not, those of errors and rejects, and
+//! the order of the numbers.
 
 use second::listing::list;
-use second::reader::{read, Accepted, ENTRY_NUMBERS, TABLE_NUMBERS};
+use second::reader::{packed, read, Accepted, ENTRY_NUMBERS, TABLE_NUMBERS};
 use second::refusal::Refusal;
 
 fn octets(text: &str) -> Vec<u8> {
@@ -46,7 +47,7 @@ fn chart_a() {
         kind: 0xE9,
         id_count: 1,
         id: [0x05, 0],
-        specifier: 4,
+        code: [4, 0],
         all: 5,
         named: 5,
         other: 0,
@@ -85,7 +86,7 @@ fn chart_a_with_channel_data_again() {
 fn result_with_channel_data() {
     let text = "EA 07 CF 01 05 F2 02 85 00";
     let (answer, table) = accepted(text, 4);
-    assert_eq!((answer.kind, answer.specifier), (0xEA, 4));
+    assert_eq!((answer.kind, answer.code), (0xEA, [4, 0]));
     assert_eq!((answer.id_count, answer.id), (1, [0x05, 0]));
     assert_eq!((answer.all, answer.named, answer.other), (1, 1, 0));
     assert_eq!(table, [5, 0, 9, 0, 7]);
@@ -103,6 +104,161 @@ fn result_with_an_empty_set() {
     assert!(table.is_empty());
 }
 
+const ERROR: &str = "EB 08 CF 01 05 D4 01 81 F2 00";
+const REJECT: &str = "EC 08 CF 00 D5 02 01 01 F2 00";
+
+#[test]
+fn error() {
+    let expected = Accepted {
+        kind: 0xEB,
+        id_count: 1,
+        id: [0x05, 0],
+        code: [0x81, 0],
+        all: 0,
+        named: 0,
+        other: 0,
+    };
+    assert_eq!(accepted(ERROR, 0), (expected, Vec::new()));
+    assert_eq!(
+        refused(&ERROR.replace("EB 08 CF 01 05", "EB 07 CF 00"), 0),
+        (6, 2)
+    );
+    assert_eq!(
+        refused(&ERROR.replace("EB 08 CF 01 05", "EB 09 CF 02 05 06"), 0),
+        (6, 2)
+    );
+    for element in [
+        "D1 01 81", "D3 01 81", "D5 01 81", "F2 01 81", "CF 01 81", "94 01 81",
+    ] {
+        assert_eq!(
+            refused(&ERROR.replace("D4 01 81", element), 0),
+            (21, 5),
+            "{element}"
+        );
+    }
+    assert_eq!(
+        refused(
+            &ERROR.replace("EB 08", "EB 07").replace("D4 01 81", "D4 00"),
+            0
+        ),
+        (21, 5)
+    );
+    assert_eq!(
+        refused(
+            &ERROR.replace("EB 08", "EB 09").replace("01 81", "02 81 81"),
+            0
+        ),
+        (21, 5)
+    );
+    assert_eq!(refused("EB 05 CF 01 05 F2 00", 0), (21, 5));
+}
+
+#[test]
+fn reject() {
+    let expected = Accepted {
+        kind: 0xEC,
+        id_count: 0,
+        id: [0, 0],
+        code: [0x01, 0x01],
+        all: 0,
+        named: 0,
+        other: 0,
+    };
+    assert_eq!(accepted(REJECT, 0), (expected, Vec::new()));
+    let with_id = accepted(&REJECT.replace("EC 08 CF 00", "EC 09 CF 01 00"), 0).0;
+    assert_eq!(
+        with_id,
+        Accepted {
+            id_count: 1,
+            ..expected
+        }
+    );
+    let swapped = accepted(&REJECT.replace("01 01", "02 03"), 0).0;
+    assert_eq!(swapped.code, [0x02, 0x03]);
+    assert_eq!(
+        refused(&REJECT.replace("EC 08 CF 00", "EC 0A CF 02 05 06"), 0),
+        (6, 2)
+    );
+    for element in ["D1 02 09", "D4 02 01", "D3 02 01", "F2 02 01", "95 02 01"] {
+        assert_eq!(
+            refused(&REJECT.replace("D5 02 01", element), 0),
+            (21, 4),
+            "{element}"
+        );
+    }
+    assert_eq!(
+        refused(
+            &REJECT
+                .replace("EC 08", "EC 07")
+                .replace("02 01 01", "01 01"),
+            0
+        ),
+        (21, 4)
+    );
+    let long = REJECT
+        .replace("EC 08", "EC 09")
+        .replace("02 01 01", "03 01 01 01");
+    assert_eq!(refused(&long, 0), (21, 4));
+    assert_eq!(refused("EC 04 CF 00 F2 00", 0), (21, 4));
+}
+
+/// Nor is any octet of the code refused.
+#[test]
+fn errors_and_rejects_ignore_the_caller_s_specifier() {
+    for octet in 0..=255 {
+        assert_eq!(accepted(ERROR, octet), accepted(ERROR, 4));
+        assert_eq!(accepted(REJECT, octet), accepted(REJECT, 4));
+        let hexadecimal = format!("{octet:02X}");
+        let error = ERROR.replace("81", &hexadecimal);
+        assert_eq!(accepted(&error, 4).0.code, [octet, 0]);
+        let reject = REJECT.replace("02 01 01", &format!("02 {hexadecimal} 26"));
+        assert_eq!(accepted(&reject, 4).0.code, [octet, 0x26]);
+    }
+}
+
+/// 12 to 14 are not asked, whatever row the code and the specifier name.
+#[test]
+fn parameters_of_errors_and_rejects_are_other() {
+    let set = "F2 0C 85 00 85 00 88 00 9F 81 72 00 84 00";
+    let error = format!("EB 14 CF 01 05 D4 01 0D {set}");
+    let reject = format!("EC 14 CF 00 D5 02 09 0D {set}");
+    for text in [error, reject] {
+        for specifier in [0, 4, 13, 26, 64] {
+            let (answer, table) = accepted(&text, specifier);
+            assert_eq!((answer.all, answer.named, answer.other), (5, 0, 5));
+            let places = table.chunks_exact(ENTRY_NUMBERS).map(|entry| entry[4]);
+            assert!(places.eq([10, 12, 14, 16, 20]));
+        }
+    }
+}
+
+/// Octet 0 the answer, then type, ID octets and code, and the counts as one
+/// number.
+#[test]
+fn packed_answers() {
+    let octets_of =
+        |text: &str, specifier| packed(&read_chart(&octets(text), specifier).0).to_le_bytes();
+    // 16,384 + 5 * 128 + 5 is 42 85 in hexadecimal.
+    assert_eq!(octets_of(A, 0), [0, 0xE9, 0x05, 0, 4, 0, 0x85, 0x42]);
+    let result = "EA 07 CF 01 05 F2 02 85 00";
+    assert_eq!(octets_of(result, 4), [0, 0xEA, 0x05, 0, 4, 0, 0x81, 0x40]);
+    assert_eq!(octets_of(result, 26), [0, 0xEA, 0x05, 0, 26, 0, 0x80, 0x40]);
+    assert_eq!(octets_of(ERROR, 4), [0, 0xEB, 0x05, 0, 0x81, 0, 0, 0x40]);
+    assert_eq!(octets_of(REJECT, 4), [0, 0xEC, 0, 0, 1, 1, 0, 0]);
+    let two = "E9 10 CF 02 05 06 D1 02 09 25 F2 06 81 00 86 00 82 00";
+    assert_eq!(
+        octets_of(two, 4),
+        [0, 0xE9, 0x05, 0x06, 0x25, 0, 0x83, 0x81]
+    );
+    assert_eq!(
+        octets_of("EB 05 CF 01 05 F2 00", 4),
+        [21, 5, 0, 0, 0, 0, 0, 0]
+    );
+    assert_eq!(octets_of("30 00", 4), [3, 0, 0, 0, 0, 0, 0, 0]);
+    let most = packed(&read_chart(&result_with(64), 26).0).to_le_bytes();
+    assert_eq!(most[6..], [0, 0x60]);
+}
+
 #[test]
 fn short_inputs() {
     assert_eq!(refused("", 0), (2, 0));
@@ -111,6 +267,14 @@ fn short_inputs() {
     assert_eq!(refused("30 00", 0), (3, 0));
     assert_eq!(refused("E9 80", 0), (4, 1));
     assert_eq!(refused("E9 81 05", 0), (4, 1));
+    for kind in ["EA", "EB", "EC"] {
+        assert_eq!(refused(kind, 0), (4, 1));
+        assert_eq!(refused(&format!("{kind} 00"), 0), (5, 2));
+    }
+    for kind in ["E8", "ED", "CB", "6C"] {
+        assert_eq!(refused(kind, 0), (3, 0));
+        assert_eq!(refused(&ERROR.replace("EB", kind), 0), (3, 0));
+    }
 }
 
 /// A result of this many octets, of one parameter that no row names. From
@@ -231,6 +395,56 @@ fn order_at_an_element() {
     assert_eq!(refused("EA 08 CF 01 05 F2 03 85 81 00", 4), (4, 8));
 }
 
+/// Where an INVOKE has its operation code.
+#[test]
+fn order_at_the_error_and_the_problem() {
+    for (start, element, size) in [("EB", "D4", 1), ("EC", "D5", 2)] {
+        let at = |body: &str| {
+            let count = 3 + body.split_whitespace().count();
+            refused(&format!("{start} {count:02X} CF 01 05 {body}"), 4)
+        };
+        let code = "01 ".repeat(size);
+        assert_eq!(at(""), (5, 5));
+        for other in ["D1", "D1 80", "D1 7F"] {
+            assert_eq!(at(other), (21, 5));
+        }
+        assert_eq!(at(element), (4, 6));
+        let fields = [
+            "80".into(),
+            "81".into(),
+            format!("81 {size:02X} {code}"),
+            format!("82 00 {size:02X} {code}"),
+        ];
+        for field in fields {
+            assert_eq!(at(&format!("{element} {field}")), (4, 6));
+        }
+        assert_eq!(at(&format!("{element} {size:02X}")), (5, 5));
+        assert_eq!(at(&format!("{element} 04 {code}")), (5, 5));
+        assert_eq!(at(&format!("{element} 00")), (21, 5));
+        // Another length, alone and before a set that is wrong.
+        let long = format!("{element} {:02X} {code} 01", size + 1);
+        assert_eq!(at(&long), (21, 5));
+        assert_eq!(at(&format!("{long} F3")), (21, 5));
+        let sound = format!("{element} {size:02X} {code}");
+        let set = 7 + size as u32;
+        assert_eq!(at(&sound), (5, set));
+        assert_eq!(at(&format!("{sound} F3")), (8, set));
+        assert_eq!(at(&format!("{sound} F2")), (4, set + 1));
+        // The ID comes before.
+        assert_eq!(refused(&format!("{start} 03 CE 80 D1"), 4), (6, 2));
+        assert_eq!(refused(&format!("{start} 05 CF 02 05 06 D1"), 4), (6, 2));
+    }
+}
+
+#[test]
+fn a_result_has_no_code() {
+    for element in ["D1 02 09 04", "D4 01 81", "D5 02 01 01"] {
+        let count = 5 + element.split_whitespace().count();
+        let text = format!("EA {count:02X} CF 01 05 {element} F2 00");
+        assert_eq!(refused(&text, 26), (8, 5));
+    }
+}
+
 #[test]
 fn identifiers() {
     let set = |text: &str| {
@@ -324,6 +538,12 @@ fn listing_fields() {
     let fields = format!("02 00 01 1A 02 00 00 02 00 02 04 04 07 00 01 04 {result}");
     assert_eq!(run(&fields), format!("{header}1 0 0 0 1\n"));
     assert_eq!(run("01 00 00"), format!("{header}1 2 0 0 0\n"));
+    // Errors and rejects are items, and their codes set no specifier.
+    let error = "01 00 0C EB 0A CF 01 05 D4 01 1A F2 02 85 00";
+    let reject = "01 00 0A EC 08 CF 00 D5 02 09 1A F2 00";
+    let fields = format!("{error} {result} {reject} {result} 01 00 04 EB 02 CF 00");
+    let lines = "1 0 0 0 1\n2 11 0 0 0\n3 0 0 0 0\n4 11 0 0 0\n5 6 2 0 0\n";
+    assert_eq!(run(&fields), format!("{header}{lines}"));
     for cut in ["01", "02 00", "07 00 01", "01 00 02 E9"] {
         assert_eq!(run(cut), format!("{header}cut\n"));
         let fields = format!("{result} {cut}");

@@ -12,7 +12,20 @@ const HEAD: Head = Head {
     id_count: 1,
     id_first: 0x05,
     id_second: 0x06,
-    specifier: 4,
+    code: [4, 0xBB],
+};
+
+/// The code's second octet, 0xBB, is looked at in a REJECT only.
+const ERROR: Head = Head {
+    kind: 0xEB,
+    code: [0x81, 0xBB],
+    ..HEAD
+};
+const REJECT: Head = Head {
+    kind: 0xEC,
+    id_count: 0,
+    code: [0x01, 0x02],
+    ..HEAD
 };
 
 /// What the writer does not look at.
@@ -73,6 +86,85 @@ fn charts_are_written() {
 }
 
 #[test]
+fn errors_and_rejects_are_written() {
+    let parameter = table([[5, 0, 0, 0]]);
+    let error = [
+        0xEB, 0x0A, 0xCF, 0x01, 0x05, 0xD4, 0x01, 0x81, 0xF2, 0x02, 0x85, 0x00,
+    ];
+    assert_eq!(written(ERROR, &parameter), error);
+    let reject = [
+        0xEC, 0x0A, 0xCF, 0x00, 0xD5, 0x02, 0x01, 0x02, 0xF2, 0x02, 0x85, 0x00,
+    ];
+    assert_eq!(written(REJECT, &parameter), reject);
+    let with_id = Head {
+        id_count: 1,
+        ..REJECT
+    };
+    let octets = [
+        0xEC, 0x09, 0xCF, 0x01, 0x05, 0xD5, 0x02, 0x01, 0x02, 0xF2, 0x00,
+    ];
+    assert_eq!(written(with_id, &[]), octets);
+}
+
+/// The octets of an accepted writing from no source.
+fn written(head: Head, table: &[u16]) -> Vec<u8> {
+    let mut output = vec![0x5A; 40];
+    let entries = table.len() / ENTRY_NUMBERS;
+    let count = write(head, entries, table, &[], &mut output).expect("accepted");
+    output.truncate(count);
+    output
+}
+
+/// Every second octet of the code gives the same but in a REJECT; so does
+/// every first one in a RESULT that has the same row.
+#[test]
+fn octets_of_the_code_that_are_not_looked_at() {
+    for octet in 0..=255 {
+        let second = |head: Head| Head {
+            code: [head.code[0], octet],
+            ..head
+        };
+        let channel_data = table([[5, 0, 0, 0]]);
+        assert_eq!(
+            written(second(HEAD), &channel_data),
+            written(HEAD, &channel_data)
+        );
+        let invoke = Head {
+            kind: 0xE9,
+            code: [37, 0],
+            ..HEAD
+        };
+        let mandatory = table([1, 6, 2].map(|number| [number, 0, 0, 0]));
+        assert_eq!(
+            written(second(invoke), &mandatory),
+            written(invoke, &mandatory)
+        );
+        assert_eq!(written(second(ERROR), &[]), written(ERROR, &[]));
+        assert_eq!(written(second(REJECT), &[])[6..8], [0x01, octet]);
+    }
+}
+
+/// Nothing is named, so nothing is missing and nothing occurs again.
+#[test]
+fn no_row_is_asked_of_errors_and_rejects() {
+    let list = table([5, 5, 8, 242, 8].map(|number| [number, 0, 0, 0]));
+    for head in [ERROR, REJECT] {
+        for specifier in [0, 4, 13, 26] {
+            let head = Head {
+                code: [specifier, specifier],
+                ..head
+            };
+            assert_eq!(answer(head, 0, &[], &[], 9), (17, 10));
+            assert_eq!(answer(head, 0, &[], &[], 10), (0, 10));
+            assert_eq!(answer(head, 5, &list, &[], 22), (0, 22));
+            assert_eq!(answer(head, 5, &list, &[], 21), (17, 22));
+        }
+        let long = table([[7, 0, 0, 5000]]);
+        assert_eq!(answer(head, 1, &long, &[0; 5000], 0), (15, 5018));
+    }
+}
+
+#[test]
 fn head_and_counts() {
     let type_wrong = Head {
         kind: 0x30,
@@ -91,6 +183,19 @@ fn head_and_counts() {
             ..HEAD
         };
         assert_eq!(answer(head, 0, &[], &[], 0), (6, 0));
+    }
+    for (head, wrong) in [(ERROR, [0, 2, 3]), (REJECT, [2, 3, 255])] {
+        for id_count in wrong {
+            let head = Head { id_count, ..head };
+            assert_eq!(answer(head, usize::MAX, &[], &[], 0), (6, 0));
+        }
+        assert_eq!(answer(head, 65, &[], &[], 0), (10, 0));
+        assert_eq!(answer(head, 1, &[5, 0, 0, 0], &[], 0), (1, 0));
+        assert_eq!(answer(head, 1, &[5, 2, 0, 0, 0], &[], 0), (16, 0));
+    }
+    for kind in [0xE8, 0xED, 0xCB, 0x6C] {
+        let head = Head { kind, ..ERROR };
+        assert_eq!(answer(head, 0, &[], &[], 0), (3, 0));
     }
     for entries in [65, usize::MAX, usize::MAX / ENTRY_NUMBERS + 1] {
         assert_eq!(answer(HEAD, entries, &[], &[], 0), (10, 0));
@@ -135,7 +240,7 @@ fn entries() {
 #[test]
 fn rows_are_asked_between_15_and_17() {
     let none = Head {
-        specifier: 0,
+        code: [0, 4],
         ..HEAD
     };
     assert_eq!(answer(none, 0, &[], &[], 0), (11, 0));
@@ -147,7 +252,7 @@ fn rows_are_asked_between_15_and_17() {
     assert_eq!(answer(HEAD, 5, &again, &[], 0), (12, 3));
     let choice = Head {
         kind: 0xE9,
-        specifier: 13,
+        code: [13, 0],
         ..HEAD
     };
     let both = table([9, 242, 21, 17, 8, 22].map(|number| [number, 0, 0, 0]));
@@ -159,7 +264,7 @@ fn rows_are_asked_between_15_and_17() {
 fn needed(entries: usize, length: u16) -> (u8, u32) {
     let table = table([[7, 0, 0, length]]).repeat(entries);
     let head = Head {
-        specifier: 26,
+        code: [26, 0],
         ..HEAD
     };
     answer(head, entries, &table, &vec![0; usize::from(length)], 0)

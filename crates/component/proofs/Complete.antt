@@ -1,25 +1,26 @@
 -- Whatever the grammar lays out is read, and the layout shows it.
 use Prim.Native.Nat.{ℕ, zero, suc, _+_, _-_, _<_, _≤_}
 use mathlib.Core.Path.{_≡_, refl, sym, ap, ap₂, _∙_}
-use mathlib.Core.Bool.{true, _||_}
+use mathlib.Core.Bool.{true, false}
 use mathlib.Core.List.{List, [], _∷_, _++_, append-assoc, append-nil}
 use lib.ListN.{length, getD, take, drop, length-append}
 use lib.Seq.{drop-drop, drop-append-seam, take-append-add, take-append-seam, getD-drop}
-use lib.Dec.{eqb}
 use borrow.Author.Tests.{lt-ltb, le-leb, lt-leb, eq-eqb}
 use native.Mathlib.Nat.{add-zero, zero-add}
 use native.Mathlib.Omega.{arith}
-use Rattle.element.specs.Octets.{Octets, if, between}
+use Rattle.element.specs.Octets.{Octets, between}
 use Rattle.element.specs.Answer.{Answer, accepted, _>>=_}
 use Rattle.element.specs.Identifier.{IdentifierField}
 use Rattle.element.proofs.LengthLaws as L
 use Rattle.element.proofs.IdentifierLaws as I
-use Rattle.component.specs.Layout.{Span, contents, spanOf, wanted, setAt, operation, invoke, result, Head, headOf, headAt, headFrom, parameter, parameterAt, parameters, Layout, layoutOf, layoutAt, layoutBehind, specifierIn}
+use Rattle.component.specs.Layout.{Span, span, sizeOf, contents, spanOf, wanted, setAt, codedAt, codeAt, behindId, bodyAt, Head, headOf, headAt, headFrom, parameter, parameterAt, parameters, Layout, layoutOf, layoutAt, layoutBehind, codeOctets, operationPlace}
+use Rattle.component.specs.Types.{Coding, coded, codeSize}
 use Rattle.component.specs.Table.{Entry, next}
-use Rattle.component.specs.Grammar.{Parameter, Element, laid, Parameters, Component, Laid, invoked, answered, parametersOf, kindOf, identifierOf, specifierOf}
+use Rattle.component.specs.Grammar.{Parameter, Element, laid, Parameters, Component, Coded, absent, present, Laid}
 use Rattle.component.specs.Grammar as G
 use Rattle.component.proofs.Shown.{Outlines, standing-show}
-use Rattle.component.specs.Standing.{entryAt, entriesAt, standing, specifierPlace}
+use Rattle.component.proofs.Typing.{known, fits}
+use Rattle.component.specs.Standing.{entryAt, entriesAt, standing, operationAt}
 
 -- an answer that accepts what `P` holds of, step by step
 data Accepts {A : Type 0} (P : A → Type 0) : Answer A → Type 0 where
@@ -137,79 +138,90 @@ module _ (s : Octets) where
       then (parameters-of r room end (rw (a .ends) at (back i rest e)) (omega arith) k (omega arith)) λ es b.
       accepts (ap₂ (λ y ys. y ∷ ys) (a .stands) (b ∙ ap (λ k. entriesAt k r) (sym (a .ends)))))
 
+  -- the code, and where the set stands behind it
+  record Coding-of (code behind : Octets) (to : ℕ) (x : Span) : Type 0 where
+    starts : Stands (x .start) code behind
+    ends : to ≡ x .end
+    sized : x .end ≡ x .start + length code
+
+  code-of : {coding : Coding} {at : ℕ} {code e behind : Octets} → Coded coding code e → Stands at e behind → (end : ℕ) → at + length e ≤ end →
+      Accepts (Coding-of code behind (at + length e)) (codeAt s coding at end)
+  unfolding codeAt codedAt
+  code-of {at = at} absent h end k = accepts {x = span at at} (record { starts = h; ends = omega arith; sized = omega arith })
+  code-of {coding = coded octet number true size} {at} {code} (present l w) h end k =
+      then (wanted-of w h number end k) λ d i.
+      let e = i .starts in
+      rw (eq-eqb (sizeOf d) (1 + size) (omega arith), eq-eqb (getD s (d .start) 0) 9 (rw add-zero at (shown e 0)))
+      (accepts (record { starts = back (9 ∷ []) code e; ends = i .ends; sized = omega arith }))
+  code-of {coding = coded octet number false size} (present l w) h end k =
+      then (wanted-of w h number end k) λ d i.
+      rw (eq-eqb (sizeOf d) (0 + size) (omega arith), add-zero (d .start))
+      (accepts (record { starts = i .starts; ends = i .ends; sized = i .sized }))
+
   -- the component
   record Heads {c : Component} (x : Laid c s) (h : Head) : Type 0 where
-    kind : h .kind ≡ kindOf c
-    id : between (h .id .start) (h .id .end) s ≡ identifierOf c
-    specifier : (given : ℕ) → if (eqb (h .kind) 0xE9) (getD s (h .operation) 0) given ≡ specifierOf c given
-    octets : Octets
-    holds : Parameters (parametersOf c) octets
-    set : Inside octets [] (length s) (h .set)
-    stands : entriesAt (length s - length octets) holds ≡ standing x
-    place : h .operation ≡ specifierPlace x
+    kind : h .kind ≡ c .kind
+    id : between (h .id .start) (h .id .end) s ≡ c .id
+    code : Stands (h .code) (c .code) (x .set)
+    coded : h .code + (length (c .code) + length (x .set)) ≡ length s
+    set : Stands (h .set) (x .contents) []
+    ends : h .set + length (x .contents) ≡ length s
 
-  whole : {kind : ℕ} {body : Octets} {P : Head → Type 0} → Element (kind ∷ []) body s → eqb kind 0xE9 || eqb kind 0xEA ≡ true → length s ≤ 4096 →
-      ((x : Span) → Inside body [] (length s) x → Accepts P (if (eqb kind 0xE9) (invoke s x) (result s x))) → Accepts P (headOf s)
-  unfolding headAt headFrom
-  whole w t h k =
-      let e : Stands 0 s [] = record { octets = sym (append-nil s) } in
-      rw (first w e, lt-ltb 0 (length s) (omega (arith, longer w)), le-leb (length s) 4096, t)
-      (then (rw (zero-add (length s)) at (contents-of w e (length s) (omega arith))) λ x i. rw (eq-eqb (x .end) (length s) (omega arith)) (k x i))
+pub code-sized : {coding : Coding} {code e : Octets} → Coded coding code e → length code ≡ codeSize coding
+code-sized absent = refl
+code-sized (present l w) = l
 
 head-of : {c : Component} {s : Octets} (x : Laid c s) → length s ≤ 4096 → Accepts (Heads s x) (headOf s)
-unfolding invoke operation result standing specifierPlace
-head-of (invoked id specifier ps i o f set s a b w c r v x) h = whole s x refl h λ y j.
+unfolding headAt headFrom bodyAt behindId
+head-of {c} {s} x h =
+    let i = x .id in
+    let o = x .code in
+    let f = x .set in
+    let e : Stands s 0 s [] = record { octets = sym (append-nil s) } in
+    let w = x .whole in
     let n = length-append i o in
     let q = length-append (i ++ o) f in
+    rw (first s w e, lt-ltb 0 (length s) (omega (arith, longer w)), le-leb (length s) 4096, known (x .allowed .0))
+    (then (rw (zero-add (length s)) at (contents-of s w e (length s) (omega arith))) λ y j.
     let g = front s (i ++ o) f (j .starts) in
-    then (wanted-of s w (front s i o g) 6 (y .end) (omega arith)) λ z l.
-    rw (le-leb (z .end - z .start) 2 (omega arith))
-    (then (wanted-of s c (rw (l .ends) at (back s i o g)) 7 (y .end) (omega arith)) λ d m.
-    let e : y .start + length (i ++ o) ≡ d .end = omega arith in
-    rw (eq-eqb (d .end - d .start) 2 (omega arith), eq-eqb (getD s (d .start) 0) 9 (rw add-zero at (shown s (m .starts) 0)))
-    (then (setAt-of s v (rw e at (back s (i ++ o) f (j .starts))) (y .end) (omega arith)) λ u p.
+    rw (eq-eqb (y .end) (length s) (omega arith))
+    (then (wanted-of s (x .identified) (front s i o g) 6 (y .end) (omega arith)) λ z l.
+    let size : z .end - z .start ≡ length (c .id) = omega arith in
+    rw (size, fits (x .allowed))
+    (then (code-of s (x .encoded) (rw (l .ends) at (back s i o g)) (y .end) (omega arith)) λ d m.
+    let k : y .start + length (i ++ o) ≡ d .end = omega arith in
+    then (setAt-of s (x .collected) (rw k at (back s (i ++ o) f (j .starts))) (y .end) (omega arith)) λ u p.
     accepts (record {
       kind = refl;
       id = body-of s l;
-      specifier = λ given. shown s (m .starts) 1;
-      octets = set;
-      holds = r;
-      set = rw (j .ends) p;
-      stands = refl;
-      place = omega arith;
-    })))
-head-of (answered id ps i f set s a w r v x) h = whole s x refl h λ y j.
-    let n = length-append i f in
-    then (wanted-of s w (front s i f (j .starts)) 6 (y .end) (omega arith)) λ z l.
-    rw (eq-eqb (z .end - z .start) 1 (omega arith))
-    (then (setAt-of s v (rw (l .ends) at (back s i f (j .starts))) (y .end) (omega arith)) λ u m.
-    accepts (record {
-      kind = refl;
-      id = body-of s l;
-      specifier = λ given. refl;
-      octets = set;
-      holds = r;
-      set = rw (j .ends) m;
-      stands = refl;
-      place = refl;
-    }))
+      code = rw append-nil at (m .starts);
+      coded = omega arith;
+      set = p .starts;
+      ends = omega arith;
+    }))))
 
 -- with where its parts stand
 pub record Reads {s : Octets} {c : Component} (x : Laid c s) (l : Layout) : Type 0 where
   pub outlines : Outlines s l c
   pub entries : l .entries ≡ standing x
-  pub operation : l .head .operation ≡ specifierPlace x
+  pub operation : operationPlace (l .head) ≡ operationAt x
 
-pub complete : {c : Component} {s : Octets} (x : Laid c s) → length s ≤ 4096 → length (parametersOf c) ≤ 64 →
+pub complete : {c : Component} {s : Octets} (x : Laid c s) → length s ≤ 4096 → length (c .parameters) ≤ 64 →
     (l : Layout) × (layoutOf s ≡ accepted l) × Reads x l
-unfolding layoutAt layoutBehind specifierIn
+unfolding layoutAt layoutBehind codeOctets standing operationPlace operationAt
 complete {c} {s} x h k = taken
     (then (head-of x h) λ y a.
-    then (parameters-of s (a .holds) 64 (y .set .end) (a .set .starts) (omega arith) (omega arith) k) λ es b.
-    let z : y .set .start ≡ length s - length (a .octets) = omega arith in
-    let q = b ∙ ap (λ k. entriesAt k (a .holds)) z ∙ a .stands in
+    then (parameters-of s (x .parameters) 64 (length s) (a .set) (a .ends) (omega arith) k) λ es b.
+    let z : y .set ≡ length s - length (x .contents) = omega arith in
+    let q = b ∙ ap (λ k. entriesAt k (x .parameters)) z in
+    let p : y .code ≡ length s - (length (x .set) + length (c .code)) = omega arith in
     accepts (record {
-      outlines = record { kind = a .kind; id = a .id; specifier = a .specifier; shows = rw q (standing-show x) };
+      outlines = record {
+        kind = a .kind;
+        id = a .id;
+        code = rw (a .kind, ← code-sized (x .encoded), a .code .octets) (take-append-seam (c .code) (x .set));
+        shows = rw q (standing-show x);
+      };
       entries = q;
-      operation = a .place;
+      operation = rw (a .kind, p);
     }))

@@ -9,9 +9,10 @@ use Rattle.element.specs.Length.{short, shortest}
 use Rattle.element.specs.Identifier.{IdentifierField, only, identifier}
 use Rattle.element.proofs.LengthLaws.{unique, bounded}
 use Rattle.element.proofs.IdentifierLaws as I
-use Rattle.component.specs.Grammar.{Parameter, Element, laid, Parameters, none, more, Component, Invoke, Result, Laid, invoked, answered, parametersOf}
-use Rattle.component.specs.Composed.{element, setOf, composed}
-use Rattle.component.proofs.Composable.{Composable, Typed, Identified}
+use Rattle.component.specs.Types.{Coding, uncoded, coded, codingOf, codeSize}
+use Rattle.component.specs.Grammar.{Parameter, Element, laid, Parameters, none, more, Component, Coded, absent, present, Laid}
+use Rattle.component.specs.Composed.{element, setOf, codeElement, composed}
+use Rattle.component.proofs.Composable.{Composable, Identified}
 
 -- ---- composed
 within : (head body : Octets) → length body ≤ length (element head body)
@@ -29,23 +30,32 @@ set-of (p ∷ ps) i h =
     let l = length-append (element (identifier (p .number) (p .form)) (p .content)) (setOf ps) in
     more p (only (p .number) (p .form) (i .0) (i .1)) (element-of _ (p .content) (omega arith)) (set-of ps (i .2) (omega arith))
 
+code-of : (coding : Coding) (code : Octets) → length code ≡ codeSize coding → length (codeElement coding code) ≤ 4096 → Coded coding code (codeElement coding code)
+unfolding codeElement
+code-of uncoded [] e h = absent
+code-of uncoded (a ∷ code) e h = absurd (omega arith)
+code-of (coded octet number family size) code e h = present e (element-of _ _ h)
+
 pub composes : {c : Component} → Composable c → Laid c (composed c)
 unfolding composed
-composes {c = Invoke id specifier ps} h =
-    let i = element (0xCF ∷ []) id in
-    let f = element (0xF2 ∷ []) (setOf ps) in
-    let o = element (0xD1 ∷ []) (9 ∷ specifier ∷ []) in
-    let k = simp length-append at (within (0xE9 ∷ []) (i ++ o ++ f)) in
-    let l = within (0xF2 ∷ []) (setOf ps) in
-    invoked id specifier ps i o f (setOf ps) _ (h .typed .0) (h .typed .1)
-    (element-of _ id (omega arith)) (element-of _ _ (omega arith)) (set-of ps (h .identified) (omega arith)) (element-of _ (setOf ps) (omega arith)) (element-of _ _ (h .size))
-composes {c = Result id ps} h =
-    let i = element (0xCF ∷ []) id in
-    let f = element (0xF2 ∷ []) (setOf ps) in
-    let k = simp length-append at (within (0xEA ∷ []) (i ++ f)) in
-    let l = within (0xF2 ∷ []) (setOf ps) in
-    answered id ps i f (setOf ps) _ (h .typed)
-    (element-of _ id (omega arith)) (set-of ps (h .identified) (omega arith)) (element-of _ (setOf ps) (omega arith)) (element-of _ _ (h .size))
+composes {c} h =
+    let i = element (0xCF ∷ []) (c .id) in
+    let o = codeElement (codingOf (c .kind)) (c .code) in
+    let f = element (0xF2 ∷ []) (setOf (c .parameters)) in
+    let k = simp length-append at (within (c .kind ∷ []) (i ++ o ++ f)) in
+    let l = within (0xF2 ∷ []) (setOf (c .parameters)) in
+    record {
+      id = i;
+      code = o;
+      set = f;
+      contents = setOf (c .parameters);
+      allowed = h .allowed;
+      identified = element-of _ (c .id) (omega arith);
+      encoded = code-of _ (c .code) (h .code) (omega arith);
+      parameters = set-of _ (h .identified) (omega arith);
+      collected = element-of _ (setOf (c .parameters)) (omega arith);
+      whole = element-of _ _ (h .size);
+    }
 
 -- ---- laid out
 pub is-element : {head body s : Octets} → Element head body s → s ≡ element head body
@@ -60,18 +70,22 @@ unfolding setOf
 is-set none = refl
 is-set (more p n w r) = rw (is-element w, is-identifier n, is-set r)
 
+is-code : {coding : Coding} {code s : Octets} → Coded coding code s → s ≡ codeElement coding code
+unfolding codeElement
+is-code absent = refl
+is-code (present e w) = is-element w
+
 pub is-composed : {c : Component} {s : Octets} → Laid c s → s ≡ composed c
 unfolding composed
-is-composed (invoked id specifier ps i o f set s a b w n r v x) = rw (is-element x, is-element w, is-element n, is-element v, is-set r)
-is-composed (answered id ps i f set s a w r v x) = rw (is-element x, is-element w, is-element v, is-set r)
+is-composed x = rw (is-element (x .whole), is-element (x .identified), is-code (x .encoded), is-element (x .collected), is-set (x .parameters))
 
 identified : {ps : List Parameter} {s : Octets} → Parameters ps s → Identified ps
 identified none = tt
 identified (more p n w r) = (I.bounded n .0, I.bounded n .1, identified r)
 
-parts : {c : Component} {s : Octets} → Laid c s → Typed c × Identified (parametersOf c)
-parts (invoked id specifier ps i o f set s a b w n r v x) = ((a, b), identified r)
-parts (answered id ps i f set s a w r v x) = (a, identified r)
+code-size : {coding : Coding} {code s : Octets} → Coded coding code s → length code ≡ codeSize coding
+code-size absent = refl
+code-size (present e w) = e
 
 pub laid-composable : {c : Component} {s : Octets} → Laid c s → length s ≤ 4096 → Composable c
-laid-composable x h = record { typed = parts x .0; identified = parts x .1; size = rw (is-composed x) at h }
+laid-composable x h = record { allowed = x .allowed; code = code-size (x .encoded); identified = identified (x .parameters); size = rw (is-composed x) at h }

@@ -1,80 +1,47 @@
 -- How many octets are composed, and a component as its head and its parameters.
 use Prim.Native.Nat.{ℕ, _+_, _≤_}
 use mathlib.Core.Path.{_≡_, refl, ap, _∙_}
-use mathlib.Core.Bool.{Bool, true, false, _||_}
-use mathlib.Core.Logic.{_⊎_, inl, inr, ⊎-elim}
-use mathlib.Core.List.{List, [], _∷_, _++_, append-assoc, append-nil}
-use lib.Dec.{leb, eqb}
+use mathlib.Core.List.{List, [], _∷_, _++_, append-assoc}
 use lib.ListN.{length, take, drop, length-append}
 use lib.Seq.{length-take-le}
-use borrow.Author.Tests.{lt-ltb, leb-true, eq-eqb, ne-eqb, eqb-true}
+use borrow.Author.Tests.{lt-ltb}
 use native.Mathlib.Omega.{arith}
-use Rattle.element.specs.Octets.{Octets, if}
-use Rattle.element.specs.Length.{shortest, fieldSize}
+use Rattle.element.specs.Octets.{Octets}
+use Rattle.element.specs.Length.{shortest}
 use Rattle.component.specs.declared.Id as D
+use Rattle.component.specs.declared.Code as E
+use Rattle.component.specs.Types.{codingOf, codeSize, Allowed}
 use Rattle.component.specs.Grammar.{Parameter}
 use Rattle.component.specs.Composed.{element, setOf, composed}
 use Rattle.component.specs.Needed.{elementSize, setSize, bodySize, octetsNeeded}
-use Rattle.component.specs.Composing.{idFits}
-use Rattle.component.specs.Table.{idOctets, componentOf}
-use Rattle.component.specs.inner.Emitting.{operationOctets, headOctets}
+use Rattle.component.specs.Table.{idOctets, writtenCode, componentOf}
+use Rattle.component.specs.inner.Emitting.{codedOctets, headOctets}
+use Rattle.component.proofs.Typing.{two-octets, two-at-most}
 use Rattle.component.proofs.Putting.{part-length}
-use Rattle.component.proofs.Sizes.{element-length, same-set}
-
--- a component type, and how many ID octets it allows
-abbrev pub Kinds : (kind count : ℕ) → Type 0
-Kinds kind count = ((kind ≡ 0xE9) × (count ≤ 2)) ⊎ ((kind ≡ 0xEA) × (count ≡ 1))
-
-pub kinds : (kind count : ℕ) → eqb kind 0xE9 || eqb kind 0xEA ≡ true → idFits kind count ≡ true → Kinds kind count
-unfolding idFits
-kinds kind count = go (eqb kind 0xE9) refl
-  where
-    go : (t : Bool) → eqb kind 0xE9 ≡ t → (t || eqb kind 0xEA) ≡ true → if t (leb count 2) (eqb count 1) ≡ true → Kinds kind count
-    go true e _ f = inl (eqb-true _ _ e, leb-true _ _ f)
-    go false e o f = inr (eqb-true _ _ o, eqb-true _ _ f)
-
-pub two-at-most : {kind count : ℕ} → Kinds kind count → count ≤ 2
-two-at-most (inl (_, h)) = h
-two-at-most (inr (_, e)) = omega arith
+use Rattle.component.proofs.Sizes.{same-set, bodyOf, same-body, sized}
 
 pub id-length : (id : D.Id) → id .count ≤ 2 → length (idOctets id) ≡ id .count
 unfolding idOctets
 id-length id h = length-take-le (id .count) (id .first ∷ id .second ∷ []) h
 
--- the component ID with its head
-module _ (id : D.Id) where
-  pub id-size : id .count ≤ 2 → length (element (0xCF ∷ []) (idOctets id)) ≡ id .count + 2
-  unfolding elementSize fieldSize
-  id-size h =
-      element-length (0xCF ∷ []) (idOctets id) (rw (id-length id h) (omega arith))
-      ∙ rw (id-length id h, lt-ltb (id .count) 128 (omega arith)) (omega arith)
+pub code-length : (kind : ℕ) (code : E.Code) → length (writtenCode kind code) ≡ codeSize (codingOf kind)
+unfolding writtenCode
+code-length kind code = length-take-le (codeSize (codingOf kind)) (code .first ∷ code .second ∷ []) (two-octets kind)
 
-  pub id-none : id .count ≡ 0 → 0xCF ∷ id .count ∷ [] ≡ element (0xCF ∷ []) (idOctets id)
-  unfolding element shortest idOctets
-  id-none e = rw e
+-- an element of at most two octets of contents
+module _ (octet count first second : ℕ) (h : count ≤ 2) where
+  pub few : element (octet ∷ []) (take count (first ∷ second ∷ [])) ≡ octet ∷ count ∷ take count (first ∷ second ∷ [])
+  unfolding element shortest
+  few = rw (length-take-le count (first ∷ second ∷ []) h, lt-ltb count 128 (omega arith)) refl
 
-  pub id-one : id .count ≡ 1 → 0xCF ∷ id .count ∷ id .first ∷ [] ≡ element (0xCF ∷ []) (idOctets id)
-  unfolding element shortest idOctets
-  id-one e = rw e
-
-  pub id-two : id .count ≡ 2 → 0xCF ∷ id .count ∷ id .first ∷ id .second ∷ [] ≡ element (0xCF ∷ []) (idOctets id)
-  unfolding element shortest idOctets
-  id-two e = rw e
-
-module _ (kind specifier : ℕ) where
-  pub operation : kind ≡ 0xE9 → 0xD1 ∷ 2 ∷ 9 ∷ specifier ∷ [] ≡ operationOctets kind specifier
-  unfolding operationOctets
-  operation e = simp (eq-eqb kind 0xE9)
-
-  pub no-operation : (kind ≡ 0xE9 → ⊥) → [] ≡ operationOctets kind specifier
-  unfolding operationOctets
-  no-operation n = simp (ne-eqb kind 0xE9)
+  pub few-size : length (element (octet ∷ []) (take count (first ∷ second ∷ []))) ≡ count + 2
+  few-size = omega (arith, ap length few, length-take-le count (first ∷ second ∷ []) h)
 
 -- room for the whole is room for each part
-pub head-room : (kind : ℕ) (id : D.Id) (specifier body set : ℕ) {room : ℕ} → length (headOctets kind id specifier body set) ≤ room →
-    1 + length (shortest body) + length (element (0xCF ∷ []) (idOctets id)) + length (operationOctets kind specifier) + 1 + length (shortest set) ≤ room
-unfolding headOctets
-head-room kind id specifier body set h = simp length-append at h
+pub head-room : (kind : ℕ) (id : D.Id) (code : E.Code) (body set : ℕ) {room : ℕ} → length (headOctets kind id code body set) ≤ room →
+    1 + length (shortest body) + length (element (0xCF ∷ []) (take (id .count) (id .first ∷ id .second ∷ []))) + length (codedOctets kind code) + 1 + length (shortest set) ≤ room
+unfolding headOctets idOctets
+head-room kind id code body set h = simp length-append at h
 
 module _ (head s : Octets) (start size : ℕ) (h : start + size ≤ length s) where
   pub parameter : head ++ shortest size ++ take size (drop start s) ≡ element head (take size (drop start s))
@@ -84,14 +51,6 @@ module _ (head s : Octets) (start size : ℕ) (h : start + size ≤ length s) wh
   pub parameter-room : (at : ℕ) {room : ℕ} → at + length (element head (take size (drop start s))) ≤ room →
       at + length head + length (shortest size) + size ≤ room
   parameter-room at k = omega (arith, simp (length-append, part-length s start size h) at (ap length parameter))
-
--- the contents of E9 or EA
-bodyOf : (kind : ℕ) (id : D.Id) (specifier : ℕ) → List Parameter → Octets
-bodyOf kind id specifier ps = element (0xCF ∷ []) (idOctets id) ++ operationOctets kind specifier ++ element (0xF2 ∷ []) (setOf ps)
-
-code-length : (t : Bool) (specifier : ℕ) → length (if t (0xD1 ∷ 2 ∷ 9 ∷ specifier ∷ []) []) ≡ if t 4 0
-code-length true specifier = refl
-code-length false specifier = refl
 
 regroup : (k a i o f s p : Octets) → (k ++ a) ++ ((i ++ o) ++ ((f ++ s) ++ p)) ≡ k ++ a ++ i ++ o ++ f ++ s ++ p
 regroup k a i o f s p = simp append-assoc
@@ -105,39 +64,26 @@ module _ (kind id : ℕ) (ps : List Parameter) (h : octetsNeeded kind id ps ≤ 
   unfolding octetsNeeded bodySize elementSize
   short-set = omega arith
 
-module _ (kind : ℕ) (id : D.Id) (specifier : ℕ) (ps : List Parameter) where
-  as-invoke : kind ≡ 0xE9 → composed (componentOf kind id specifier ps) ≡ element (kind ∷ []) (bodyOf kind id specifier ps)
-  unfolding componentOf composed bodyOf operationOctets element shortest
-  as-invoke e = rw e refl
+module _ (kind : ℕ) (id : D.Id) (code : E.Code) (ps : List Parameter) (allowed : Allowed kind (id .count)) (short : octetsNeeded kind (id .count) ps ≤ 4096) where
+  pub whole : length (composed (componentOf kind id code ps)) ≡ octetsNeeded kind (id .count) ps
+  unfolding componentOf
+  whole = (rw (id-length id (two-at-most allowed)) at (sized (componentOf kind id code ps) (code-length kind code))) (omega arith)
 
-  as-result : kind ≡ 0xEA → composed (componentOf kind id specifier ps) ≡ element (kind ∷ []) (bodyOf kind id specifier ps)
-  unfolding componentOf composed bodyOf operationOctets
-  as-result e = rw (e, append-nil) refl
+  set-length : length (setOf ps) ≡ setSize ps
+  set-length = same-set ps (omega (arith, short-set kind (id .count) ps short))
 
-  module _ (allowed : Kinds kind (id .count)) (short : octetsNeeded kind (id .count) ps ≤ 4096) where
-    as-element : composed (componentOf kind id specifier ps) ≡ element (kind ∷ []) (bodyOf kind id specifier ps)
-    as-element = ⊎-elim (λ k. as-invoke (k .0)) (λ k. as-result (k .0)) allowed
+  body-length : length (bodyOf (componentOf kind id code ps)) ≡ bodySize kind (id .count) (setSize ps)
+  unfolding componentOf
+  body-length =
+      (rw (id-length id (two-at-most allowed)) at (same-body (componentOf kind id code ps) (code-length kind code))) (omega (arith, short-body kind (id .count) ps short))
 
-    set-length : length (setOf ps) ≡ setSize ps
-    set-length = same-set ps (omega (arith, short-set kind (id .count) ps short))
+  as-element : composed (componentOf kind id code ps) ≡ element (kind ∷ []) (bodyOf (componentOf kind id code ps))
+  unfolding componentOf composed bodyOf
+  as-element = refl
 
-    body-length : length (bodyOf kind id specifier ps) ≡ bodySize kind (id .count) (setSize ps)
-    unfolding bodyOf bodySize operationOctets
-    body-length =
-        let i = id-length id (two-at-most allowed) in
-        let e = element-length (0xCF ∷ []) (idOctets id) (rw i (omega (arith, two-at-most allowed))) in
-        let f = element-length (0xF2 ∷ []) (setOf ps) (rw set-length (omega (arith, short-set kind (id .count) ps short))) in
-        simp (length-append, e, f, i, set-length, code-length)
-
-    pub whole : length (composed (componentOf kind id specifier ps)) ≡ octetsNeeded kind (id .count) ps
-    unfolding octetsNeeded
-    whole =
-        ap length as-element ∙ element-length (kind ∷ []) (bodyOf kind id specifier ps) (rw body-length (omega (arith, short-body kind (id .count) ps short)))
-        ∙ ap (elementSize 1) body-length
-
-    pub parts : composed (componentOf kind id specifier ps) ≡ headOctets kind id specifier (bodySize kind (id .count) (setSize ps)) (setSize ps) ++ setOf ps
-    unfolding headOctets element bodyOf
-    parts =
-        as-element ∙ rw (body-length, set-length)
-        (regroup (kind ∷ []) (shortest (bodySize kind (id .count) (setSize ps))) (element (0xCF ∷ []) (idOctets id)) (operationOctets kind specifier)
-        (0xF2 ∷ []) (shortest (setSize ps)) (setOf ps))
+  pub parts : composed (componentOf kind id code ps) ≡ headOctets kind id code (bodySize kind (id .count) (setSize ps)) (setSize ps) ++ setOf ps
+  unfolding headOctets codedOctets element bodyOf componentOf
+  parts =
+      as-element ∙ rw (body-length, set-length)
+      (regroup (kind ∷ []) (shortest (bodySize kind (id .count) (setSize ps))) (element (0xCF ∷ []) (idOctets id)) (codedOctets kind code)
+      (0xF2 ∷ []) (shortest (setSize ps)) (setOf ps))

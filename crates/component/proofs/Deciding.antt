@@ -1,8 +1,8 @@
 -- Every octet string is laid out within the limits or has a fault: decided from left to right, over what is left.
 use Prim.Native.Nat.{ℕ, zero, suc, _+_, _<_, _≤_}
 use mathlib.Core.Path.{_≡_, refl, sym, ap, _∙_}
+use mathlib.Core.Bool.{Bool, true, false}
 use mathlib.Core.List.{List, [], _∷_, _++_, append-assoc, append-nil}
-use mathlib.Core.Logic.{_⊎_, inl, inr, ⊎-elim}
 use lib.ListN.{length, take, drop, getD, length-take, take-append-drop}
 use lib.Seq.{getD-append-add}
 use native.Mathlib.Decide.{decLe, ℕ-discrete}
@@ -17,8 +17,9 @@ use Rattle.element.specs.Identifier.{IdentifierField}
 use Rattle.element.specs.Decoded.{lengthAt, identifierAt}
 use Rattle.element.proofs.LengthLaws as Length
 use Rattle.element.proofs.IdentifierLaws as Identifier
-use Rattle.component.specs.Grammar.{Parameter, Element, laid, Parameters, none, more, Component, Invoke, Result, Laid, invoked, answered, parametersOf}
-use Rattle.component.specs.Faults.{NoField, NoIdentifier, Numbers, component, Unheld, no-field, overrun, Unfound, ended, other, left, InSet, NoSet, NoOperation, Allowed, NoBody, Typed, Whole, Faulty, LaidOut}
+use Rattle.component.specs.Types.{Coding, uncoded, coded, formatOf, codingOf, Typed, Allowed, withFamily}
+use Rattle.component.specs.Grammar.{Parameter, Element, laid, Parameters, none, more, Component, Coded, absent, present, Laid}
+use Rattle.component.specs.Faults.{NoField, NoIdentifier, Numbers, component, Unheld, no-field, overrun, Unfound, ended, other, left, InSet, NoSet, NoCode, NoBody, Whole, Faulty, LaidOut}
 
 -- what is wanted, or a fault
 pub data Decided (P : Type 0) (F : ℕ → ℕ → Type 0) : Type 0 where
@@ -142,75 +143,81 @@ close-set at (a ∷ rest) w p o = rw p (fault (NoSet.left-over (left a rest w)))
 set-at : (at : ℕ) (t : Octets) → AreOctets t → Decided (Closed t) (NoSet at t)
 set-at at t o = then (find component 0xF2 8 at t o) (λ n d f. NoSet.unfound f) λ h. close-set at (h .rest) (h .element) (h .is) o
 
--- ---- the operation code, and the set behind it
-record Coded (t : Octets) : Type 0 where
-  specifier : ℕ
-  small : specifier < 256
-  o : Octets
+-- ---- the code, and the set behind it
+record Behind (coding : Coding) (t : Octets) : Type 0 where
+  code : Octets
+  e : Octets
   f : Octets
-  code : Element (0xD1 ∷ []) (9 ∷ specifier ∷ []) o
+  encoded : Coded coding code e
   set : Closed f
-  is : t ≡ o ++ f
+  is : t ≡ e ++ f
 
-abbrev Code : Octets → Type 0
-Code body = (specifier : ℕ) × (body ≡ 9 ∷ specifier ∷ [])
+close-code : (at : ℕ) {coding : Coding} {t code e : Octets} (rest : Octets) → Coded coding code e → t ≡ e ++ rest → AreOctets t →
+    Decided (Behind coding t) (NoCode at coding t)
+close-code at {code = code} {e} rest w p o =
+    then (set-at (at + length e) rest (behind o e rest p)) (λ n d f. rw p (NoCode.behind w f)) λ c.
+    fine (record { code = code; e = e; f = rest; encoded = w; set = c; is = p })
 
-decCode : (body : Octets) → Dec (Code body)
-decCode [] = no λ (p, e). omega (arith, ap length e)
-decCode (a ∷ []) = no λ (p, e). omega (arith, ap length e)
-decCode (a ∷ b ∷ []) = ask (ℕ-discrete a 9) (λ e. yes (b, rw e)) λ n. no λ (p, e). n (ap (λ t. getD t 0 0) e)
-decCode (a ∷ b ∷ c ∷ body) = no λ (p, e). omega (arith, ap length e)
+abbrev Code : (family : Bool) (size : ℕ) → Octets → Type 0
+Code family size body = (code : Octets) × (length code ≡ size) × (body ≡ withFamily family code)
 
-an-octet : {head e t : Octets} {a b : ℕ} (rest : Octets) → Element head (a ∷ b ∷ []) e → t ≡ e ++ rest → AreOctets t → b < 256
-an-octet {head} {a = a} {b} rest (laid field f) p o = behind o (head ++ field ++ a ∷ []) (b ∷ rest) (p ∙ simp append-assoc) 0
+decCode : (family : Bool) (size : ℕ) (body : Octets) → Dec (Code family size body)
+decCode true size [] = no λ (p, l, e). omega (arith, ap length e)
+decCode true size (a ∷ body) =
+    ask (ℕ-discrete a 9)
+    (λ e. ask (ℕ-discrete (length body) size) (λ l. yes (body, l, rw e)) λ n. no λ (p, l, q). n (omega (arith, ap length q)))
+    λ n. no λ (p, l, e). n (ap (λ t. getD t 0 0) e)
+decCode false size body = ask (ℕ-discrete (length body) size) (λ l. yes (body, l, refl)) λ n. no λ (p, l, e). n (ap length e ∙ l)
 
-operation-at : (at : ℕ) (t : Octets) → AreOctets t → Decided (Coded t) (NoOperation at t)
-operation-at at t o = then (find component 0xD1 7 at t o) (λ n d f. NoOperation.unfound f) λ h. go h (decCode (h .body))
+code-at : (coding : Coding) (at : ℕ) (t : Octets) → AreOctets t → Decided (Behind coding t) (NoCode at coding t)
+code-at uncoded at t o = close-code at t absent refl o
+code-at (coded octet number family size) at t o =
+    then (find component octet number at t o) (λ n d f. NoCode.unfound f) λ h. go h (decCode family size (h .body))
   where
-    go : (h : Held (0xD1 ∷ []) t) → Dec (Code (h .body)) → Decided (Coded t) (NoOperation at t)
-    go h (yes (specifier, e)) =
-        let w = rw e at (h .element) in
-        then (set-at (at + length (h .e)) (h .rest) (behind o (h .e) (h .rest) (h .is))) (λ n d f. rw (h .is) (NoOperation.behind w f)) λ c.
-        fine (record { specifier = specifier; small = an-octet (h .rest) w (h .is) o; o = h .e; f = h .rest; code = w; set = c; is = h .is })
-    go h (no n) = let p = h .is in rw p (fault (NoOperation.another (h .rest) (h .element) λ specifier e. n (specifier, e)))
+    go : (h : Held (octet ∷ []) t) → Dec (Code family size (h .body)) → Decided (Behind (coded octet number family size) t) (NoCode at (coded octet number family size) t)
+    go h (yes (code, l, e)) = close-code at (h .rest) (present l (rw e at (h .element))) (h .is) o
+    go h (no n) = let p = h .is in rw p (fault (NoCode.another (h .rest) (h .element) λ code l e. n (code, l, e)))
 
 -- ---- the component ID, and what stands behind it
 record Bodied (kind : ℕ) (t : Octets) : Type 0 where
   c : Component
   lays : (s : Octets) → Element (kind ∷ []) t s → Laid c s
-  few : length (parametersOf c) ≤ 64
+  few : length (c .parameters) ≤ 64
+
+pub decAllowed : (kind size : ℕ) → Typed kind → Dec (Allowed kind size)
+decAllowed kind size t =
+    ask (decLe (formatOf kind .fewest) size)
+    (λ h. ask (decLe size (formatOf kind .most)) (λ k. yes (t, h, k)) λ n. no λ (_, _, k). n k)
+    λ n. no λ (_, h, _). n h
 
 body-at : (kind at : ℕ) (t : Octets) → Typed kind → AreOctets t → Decided (Bodied kind t) (NoBody kind at t)
-body-at kind at t typed o = then (find component 0xCF 6 at t o) (λ n d f. NoBody.unfound f) λ h. go h typed
+body-at kind at t typed o = then (find component 0xCF 6 at t o) (λ n d f. NoBody.unfound f) λ h. go h (decAllowed kind (length (h .body)) typed)
   where
-    not-allowed : (h : Held (0xCF ∷ []) t) → (Allowed kind (length (h .body)) → ⊥) → Decided (Bodied kind t) (NoBody kind at t)
-    not-allowed h n = let p = h .is in rw p (fault (NoBody.sized (h .rest) (h .element) n))
-
-    go : Held (0xCF ∷ []) t → Typed kind → Decided (Bodied kind t) (NoBody kind at t)
-    go h (inl e) =
-        ask (decLe (length (h .body)) 2) (λ small.
-        then (operation-at (at + length (h .e)) (h .rest) (behind o (h .e) (h .rest) (h .is))) (λ n d f. rw (h .is) (NoBody.invoked e (h .element) small f)) λ c.
-        let q : t ≡ h .e ++ c .o ++ c .f = h .is ∙ ap (λ r. h .e ++ r) (c .is) ∙ simp append-assoc in
+    go : (h : Held (0xCF ∷ []) t) → Dec (Allowed kind (length (h .body))) → Decided (Bodied kind t) (NoBody kind at t)
+    go h (yes a) =
+        then (code-at (codingOf kind) (at + length (h .e)) (h .rest) (behind o (h .e) (h .rest) (h .is))) (λ n d f. rw (h .is) (NoBody.behind (h .element) a f)) λ c.
+        let q : t ≡ h .e ++ c .e ++ c .f = h .is ∙ ap (λ r. h .e ++ r) (c .is) ∙ simp append-assoc in
         fine (record {
-          c = Invoke (h .body) (c .specifier) (c .set .set .ps);
-          lays = λ s w. invoked _ _ _ _ _ _ _ s small (c .small) (h .element) (c .code) (c .set .set .laid) (c .set .element) (rw (e, q) at w);
+          c = record { kind = kind; id = h .body; code = c .code; parameters = c .set .set .ps };
+          lays = λ s w. record {
+            id = h .e;
+            code = c .e;
+            set = c .f;
+            contents = c .set .octets;
+            allowed = a;
+            identified = h .element;
+            encoded = c .encoded;
+            parameters = c .set .set .laid;
+            collected = c .set .element;
+            whole = rw q at w;
+          };
           few = c .set .set .few;
-        })) λ n.
-        not-allowed h (⊎-elim (λ (_, m). n m) (λ (m, _). omega arith))
-    go h (inr e) =
-        ask (ℕ-discrete (length (h .body)) 1) (λ one.
-        then (set-at (at + length (h .e)) (h .rest) (behind o (h .e) (h .rest) (h .is))) (λ n d f. rw (h .is) (NoBody.answered e (h .element) one f)) λ c.
-        let q = h .is in
-        fine (record {
-          c = Result (h .body) (c .set .ps);
-          lays = λ s w. answered _ _ _ _ _ s one (h .element) (c .set .laid) (c .element) (rw (e, q) at w);
-          few = c .set .few;
-        })) λ n.
-        not-allowed h (⊎-elim (λ (m, _). omega arith) (λ (_, m). n m))
+        })
+    go h (no n) = let p = h .is in rw p (fault (NoBody.sized (h .rest) (h .element) n))
 
 -- ---- the component
 pub decTyped : (kind : ℕ) → Dec (Typed kind)
-decTyped kind = ask (ℕ-discrete kind 0xE9) (λ e. yes (inl e)) λ n. ask (ℕ-discrete kind 0xEA) (λ e. yes (inr e)) λ m. no (⊎-elim n m)
+decTyped kind = ask (decLe 0xE9 kind) (λ h. ask (decLe kind 0xEC) (λ k. yes (h, k)) λ n. no λ (_, k). n k) λ n. no λ (h, _). n h
 
 abbrev pub Outcome : Octets → Type 0
 Outcome s = Decided ((c : Component) × LaidOut c s) (λ n d. Faulty n d s)

@@ -1,8 +1,9 @@
 -- Octets lay out one component.
 use Prim.Native.Nat.{ℕ}
 use mathlib.Core.Path.{_≡_, refl, sym, ap, _∙_}
-use mathlib.Core.List.{List, [], _++_, append-assoc}
-use lib.ListN.{length, length-append}
+use mathlib.Core.Bool.{true, false}
+use mathlib.Core.List.{List, [], _∷_, _++_, append-assoc}
+use lib.ListN.{length, drop, length-append}
 use lib.Seq.{take-append-seam, drop-append-seam}
 use native.Mathlib.Omega.{arith}
 use Rattle.element.specs.declared.Identifier.the-variants as IV
@@ -11,7 +12,8 @@ use Rattle.element.specs.Decoded.{lengthAt, identifierAt}
 use Rattle.element.specs.Identifier.{IdentifierField}
 use Rattle.element.proofs.LengthLaws as L
 use Rattle.element.proofs.IdentifierLaws as I
-use Rattle.component.specs.Grammar.{Parameter, Element, laid, Parameters, none, more, Component, Laid, invoked, answered}
+use Rattle.component.specs.Types.{Coding, coded}
+use Rattle.component.specs.Grammar.{Parameter, Element, laid, Parameters, none, more, Component, Coded, absent, present, Laid}
 use Rattle.component.proofs.Complete.{longer, first-octet}
 
 -- the same octets, cut at the same place
@@ -27,6 +29,10 @@ same-element {head} {head′} {body} {body′} (laid f p) (laid g q) k r r′ e 
     let m = L.complete p (body ++ r) in
     let n = L.complete q (body′ ++ r′) in
     cut body body′ r r′ (cc) (cut f g (body ++ r) (body′ ++ r′) (cc) d .1)
+
+-- the same octets have the same type
+same-head : {a b : ℕ} {body body′ s : Octets} → Element (a ∷ []) body s → Element (b ∷ []) body′ s → (a ≡ b) × (body ≡ body′)
+same-head w v = (sym (first-octet w []) ∙ first-octet v [], same-element w v refl [] [] refl .0)
 
 pub element-unique : {head body body′ s s′ : Octets} → Element head body s → Element head body′ s′ →
     (r r′ : Octets) → s ++ r ≡ s′ ++ r′ → (body ≡ body′) × (r ≡ r′)
@@ -50,21 +56,19 @@ same-parameters (more p {rest = x} n w r) (more q {rest = y} m v u) e =
     let l = same-parameters r u d in
     cc
 
+same-code : {coding : Coding} {code code′ e e′ : Octets} → Coded coding code e → Coded coding code′ e′ → (r r′ : Octets) → e ++ r ≡ e′ ++ r′ →
+    (code ≡ code′) × (r ≡ r′)
+same-code absent absent r r′ q = (refl, q)
+same-code {coding = coded octet number true size} (present l w) (present m v) r r′ q =
+    let (b, d) = element-unique w v r r′ q in
+    (ap (drop 1) b, d)
+same-code {coding = coded octet number false size} (present l w) (present m v) r r′ q = element-unique w v r r′ q
+
 pub functional : {c d : Component} {s : Octets} → Laid c s → Laid d s → c ≡ d
-functional (invoked id o ps i c f set s a b w n r v x) (invoked id′ o′ ps′ i′ c′ f′ set′ t a′ b′ w′ n′ r′ v′ x′) =
-    let (e, _) = element-unique x x′ [] [] refl in
-    let (p, k) = element-unique w w′ (c ++ f) (c′ ++ f′) (simp append-assoc at e) in
-    let (q, g) = element-unique n n′ f f′ k in
-    let (h, _) = element-unique v v′ [] [] (rw g) in
-    let l = same-parameters r r′ h in
-    cc
-functional (answered id ps i f set s a w r v x) (answered id′ ps′ i′ f′ set′ t a′ w′ r′ v′ x′) =
-    let (e, _) = element-unique x x′ [] [] refl in
-    let (p, g) = element-unique w w′ f f′ e in
-    let (h, _) = element-unique v v′ [] [] (rw g) in
-    let l = same-parameters r r′ h in
-    cc
-functional (invoked id o ps i c f set s a b w n r v x) (answered id′ ps′ i′ f′ set′ t a′ w′ r′ v′ x′) =
-    let z = sym (first-octet x []) ∙ first-octet x′ [] in absurd (omega arith)
-functional (answered id ps i f set s a w r v x) (invoked id′ o′ ps′ i′ c′ f′ set′ t a′ b′ w′ n′ r′ v′ x′) =
-    let z = sym (first-octet x []) ∙ first-octet x′ [] in absurd (omega arith)
+functional {c} {d} x y =
+    let (k, e) = same-head (x .whole) (y .whole) in
+    let (p, q) = element-unique (x .identified) (y .identified) (x .code ++ x .set) (y .code ++ y .set) (simp append-assoc at e) in
+    let (m, g) = same-code (x .encoded) (rw (← k) at (y .encoded)) (x .set) (y .set) q in
+    let (h, _) = element-unique (x .collected) (y .collected) [] [] (rw g) in
+    let l = same-parameters (x .parameters) (y .parameters) h in
+    λ i. record { kind = k i; id = p i; code = m i; parameters = l i }

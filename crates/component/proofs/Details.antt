@@ -1,6 +1,6 @@
 -- What a fault points to: each number is one of the paper's list, and each place is in the octets or where they end.
-use Prim.Native.Nat.{ℕ, zero, suc, _+_, _*_, _<_, _≤_}
-use mathlib.Core.Path.{refl, ap}
+use Prim.Native.Nat.{ℕ, zero, suc, _+_, _-_, _*_, _<_, _≤_}
+use mathlib.Core.Path.{_≡_, refl, ap}
 use mathlib.Core.Bool.{Bool, true, false}
 use mathlib.Core.List.{List, _∷_, _++_, List·Memᴰ, List·Memᴰ·head, List·Memᴰ·tail}
 use lib.ListN.{length, take, drop, getD, length-append, length-take}
@@ -9,13 +9,17 @@ use native.Mathlib.Omega.{arith}
 use Rattle.element.specs.Octets.{Octets, AreOctets, if}
 use Rattle.element.proofs.LengthLaws as Length
 use Rattle.element.proofs.IdentifierLaws as Identifier
-use Rattle.component.specs.Grammar.{Parameter, Parameters, more, Component, Laid, invoked, answered, kindOf, identifierOf, specifierOf}
-use Rattle.component.specs.Faults.{component, Unheld, no-field, overrun, Unfound, ended, other, LeftOver, left, InSet, NoSet, NoOperation, NoBody, Whole, Faulty, LaidOut}
+use Rattle.element.specs.Length.{fieldSize}
+use Rattle.component.specs.Types.{Coding, uncoded, coded, codingOf, codeSize}
+use Rattle.component.specs.Layout.{codeOctets}
+use Rattle.component.specs.Grammar.{Parameter, Parameters, more, Component, Laid}
+use Rattle.component.specs.Faults.{component, Unheld, no-field, overrun, Unfound, ended, other, LeftOver, left, InSet, NoSet, NoCode, NoBody, Whole, Faulty, LaidOut}
 use Rattle.component.specs.Table.{Entry, width, held, heldFrom, parameterOf, parametersFrom}
-use Rattle.component.specs.Standing.{entryAt, entriesAt, standing, specifierPlace}
-use Rattle.component.specs.Needed.{elementSize, setSize, bodySize, octetsNeeded}
+use Rattle.component.specs.Standing.{entryAt, entriesAt, standing, operationAt}
+use Rattle.component.specs.Needed.{elementSize, setSize, codingSize, bodySize, octetsNeeded}
 use Rattle.component.proofs.Complete.{longer, complete}
 use Rattle.component.proofs.Parts.{octets-between}
+use Rattle.component.proofs.Typing.{of-each, most-two}
 
 -- `at` octets stand before these
 abbrev Listed : (at : ℕ) → Octets → (number detail : ℕ) → Type 0
@@ -25,7 +29,7 @@ unheld : {head s : Octets} {at n d : ℕ} → Unheld component head at s n d →
 unheld {head} (no-field s h) = omega (arith, length-append head s)
 unheld (overrun rest f h) = omega arith
 
-unfound : {octet number at n d : ℕ} {s : Octets} → 0 < number → number < 19 → Unfound component octet number at s n d → Listed at s n d
+unfound : {octet number at n d : ℕ} {s : Octets} → 0 < number → number < 256 → Unfound component octet number at s n d → Listed at s n d
 unfound h k ended = omega arith
 unfound h k (other f) = omega arith
 unfound h k (Unfound.unheld u) = unheld u
@@ -44,16 +48,23 @@ no-set (NoSet.unfound f) = unfound (omega arith) (omega arith) f
 no-set (NoSet.left-over f) = left-over f
 no-set (NoSet.inside {field = field} {set = set} l f) = omega (arith, length-append field set, in-set f)
 
-no-operation : {at n d : ℕ} {s : Octets} → NoOperation at s n d → Listed at s n d
-no-operation (NoOperation.unfound f) = unfound (omega arith) (omega arith) f
-no-operation (NoOperation.another rest w h) = omega arith
-no-operation (NoOperation.behind {e = e} {rest = rest} w f) = omega (arith, length-append e rest, no-set f)
+-- what refuses a code
+abbrev Refusable : Coding → Type 0
+Refusable uncoded = Unit
+Refusable (coded octet number family size) = (0 < number) × (number < 256)
+
+refusable : (kind : ℕ) → Refusable (codingOf kind)
+refusable = of-each (λ f. Refusable (f .coding)) (omega arith) tt (omega arith) (omega arith)
+
+no-code : {coding : Coding} {at n d : ℕ} {s : Octets} → Refusable coding → NoCode at coding s n d → Listed at s n d
+no-code q (NoCode.unfound f) = unfound (q .0) (q .1) f
+no-code q (NoCode.another rest w h) = omega arith
+no-code q (NoCode.behind {e = e} {rest = rest} w f) = omega (arith, length-append e rest, no-set f)
 
 no-body : {kind at n d : ℕ} {s : Octets} → NoBody kind at s n d → Listed at s n d
 no-body (NoBody.unfound f) = unfound (omega arith) (omega arith) f
 no-body (NoBody.sized rest w h) = omega arith
-no-body (NoBody.invoked {i = i} {rest = rest} k w h f) = omega (arith, length-append i rest, no-operation f)
-no-body (NoBody.answered {i = i} {rest = rest} k w h f) = omega (arith, length-append i rest, no-set f)
+no-body {kind} (NoBody.behind {i = i} {rest = rest} w a f) = omega (arith, length-append i rest, no-code (refusable kind) f)
 
 whole : {kind n d : ℕ} {s : Octets} → Whole kind s n d → Listed 0 s n d
 whole (Whole.unheld u) = unheld u
@@ -74,29 +85,39 @@ placed place (more p {s = e} {rest = rest} n w r) (List·Memᴰ·tail m) = omega
 
 pub stands-in : {c : Component} {s : Octets} (h : Laid c s) {x : Entry} → List·Memᴰ x (standing h) → x .place ≤ length s
 unfolding standing
-stands-in (invoked id specifier ps i o f set s a b w c r v x) m = omega (arith, placed _ r m, longer v, longer x, length-append (i ++ o) f)
-stands-in (answered id ps i f set s a w r v x) m = omega (arith, placed _ r m, longer v, longer x, length-append i f)
+stands-in h m = omega (arith, placed _ (h .parameters) m, longer (h .collected), longer (h .whole), length-append (h .id ++ h .code) (h .set))
 
 -- ---- what a component shows of itself is octets
-pub id-octets : {c : Component} {s : Octets} → AreOctets s → LaidOut c s → AreOctets (identifierOf c)
-id-octets {s = s} o h =
-    let (l, _, q) = complete (h .laid) (h .within) (h .few) in
-    rw (q .outlines .id) at (octets-between s o (l .head .id .start) (l .head .id .end))
+module _ {c : Component} {s : Octets} (o : AreOctets s) (h : LaidOut c s) where
+  pub id-octets : AreOctets (c .id)
+  id-octets =
+      let (l, _, q) = complete (h .laid) (h .within) (h .few) in
+      rw (q .outlines .id) at (octets-between s o (l .head .id .start) (l .head .id .end))
 
-pub own-octets : {c : Component} {s : Octets} → Laid c s → {given : ℕ} → given < 256 →
-    (kindOf c < 256) × (length (identifierOf c) ≤ 2) × (specifierOf c given < 256)
-own-octets (invoked id specifier ps i o f set s a b w c r v x) h = omega arith
-own-octets (answered id ps i f set s a w r v x) h = omega arith
+  pub code-octets : AreOctets (c .code)
+  unfolding codeOctets
+  code-octets =
+      let (l, _, q) = complete (h .laid) (h .within) (h .few) in
+      let a = l .head .code in
+      let n = codeSize (codingOf (l .head .kind)) in
+      let e : (a + n) - a ≡ n = omega arith in
+      rw (q .outlines .code) at (rw e at (octets-between s o a (a + n)))
 
-pub specifier-in : {c : Component} {s : Octets} (h : Laid c s) → specifierPlace h ≤ length s
-unfolding specifierPlace
-specifier-in (invoked id specifier ps i o f set s a b w c r v x) = omega arith
-specifier-in (answered id ps i f set s a w r v x) = omega arith
+pub two-octets : {c : Component} {s : Octets} → Laid c s → (c .kind < 256) × (length (c .id) ≤ 2)
+two-octets {c} h = let (t, _, m) = h .allowed in omega (arith, most-two (c .kind))
+
+pub operation-in : {c : Component} {s : Octets} (h : Laid c s) → operationAt h ≤ length s
+unfolding operationAt
+operation-in {c} {s} h = go (eqb (c .kind) 0xE9)
+  where
+    go : (t : Bool) → if t (length s - (length (h .set) + length (c .code))) 0 ≤ length s
+    go true = omega arith
+    go false = omega arith
 
 -- ---- how many octets are needed of entries whose lengths have two octets
-coded : (t : Bool) → if t 4 0 ≤ 4
-coded true = omega arith
-coded false = omega arith
+coding-most : (kind : ℕ) → codingSize (codingOf kind) ≤ 4
+unfolding codingSize elementSize fieldSize
+coding-most = of-each (λ f. codingSize (f .coding) ≤ 4) (omega arith) (omega arith) (omega arith) (omega arith)
 
 module _ (t : List ℕ) (source : Octets) (h : (i : ℕ) → getD t i 0 < 65536) where
   set-most : (i n : ℕ) → setSize (parametersFrom i n t source) ≤ n * 65542
@@ -111,4 +132,4 @@ module _ (t : List ℕ) (source : Octets) (h : (i : ℕ) → getD t i 0 < 65536)
   unfolding octetsNeeded bodySize elementSize
   needed-most kind id n k l =
       let set = setSize (parametersFrom 0 n t source) in
-      omega (arith, set-most 0 n, coded (eqb kind 0xE9), Length.small id refl, Length.small set refl, Length.small (bodySize kind id set) refl)
+      omega (arith, set-most 0 n, coding-most kind, Length.small id refl, Length.small set refl, Length.small (bodySize kind id set) refl)

@@ -1,9 +1,9 @@
 -- What an answer ends in: a value of which P holds, or a refusal of which Q holds; followed step by step, as `do` goes.
 use Prim.Native.Nat.{ℕ, _<_, _≤_}
 use mathlib.Core.Path.{_≡_, refl}
-use mathlib.Core.Bool.{Bool, true, false, _||_}
+use mathlib.Core.Bool.{Bool, true, false}
 use lib.Dec.{ltb, leb, eqb}
-use borrow.Author.Tests.{ltb-true, ltb-false, leb-true, leb-false, eqb-true, eqb-false, ne-eqb}
+use borrow.Author.Tests.{ltb-true, ltb-false, leb-true, leb-false, eqb-true, eqb-false}
 use native.Mathlib.Omega.{arith}
 use Rattle.element.specs.Answer.{Answer, accepted, refused, _>>=_, _>>_, check}
 
@@ -29,7 +29,7 @@ module _ {A : Type 0} {P : A → Type 0} {Q : ℕ → ℕ → Type 0} where
 
 -- a test that the next step stands behind
 module _ {A : Type 0} {P : A → Type 0} (Q : ℕ → ℕ → Type 0) where
-  ask : (t : Bool) {n d : ℕ} {r : Answer A} → (t ≡ false → Q n d) → (t ≡ true → Ends P Q r) → Ends P Q (check t n d >> r)
+  pub ask : (t : Bool) {n d : ℕ} {r : Answer A} → (t ≡ false → Q n d) → (t ≡ true → Ends P Q r) → Ends P Q (check t n d >> r)
   ask true q k = k refl
   ask false q k = stops (q refl)
 
@@ -41,6 +41,3 @@ module _ {A : Type 0} {P : A → Type 0} (Q : ℕ → ℕ → Type 0) where
 
   pub equal : {x y n d : ℕ} {r : Answer A} → ((x ≡ y → ⊥) → Q n d) → (x ≡ y → Ends P Q r) → Ends P Q (check (eqb x y) n d >> r)
   equal {x} {y} q k = ask (eqb x y) (λ e. q (eqb-false x y e)) (λ e. k (eqb-true x y e))
-
-  pub either : {x a b n d : ℕ} {r : Answer A} → Q n d → (((x ≡ a → ⊥) → x ≡ b) → Ends P Q r) → Ends P Q (check (eqb x a || eqb x b) n d >> r)
-  either {x} {a} {b} q k = ask (eqb x a || eqb x b) (λ _. q) (λ e. k (λ h. eqb-true x b (rw (ne-eqb x a h) at e)))

@@ -1,6 +1,7 @@
 -- Where the parts stand that the steps of the layout find: inside their parent, each behind its field.
-use Prim.Native.Nat.{ℕ, _+_, _<_, _≤_}
+use Prim.Native.Nat.{ℕ, suc, _+_, _<_, _≤_}
 use mathlib.Core.Path.{_≡_, refl}
+use mathlib.Core.Bool.{Bool, _||_, not}
 use lib.ListN.{getD}
 use lib.Dec.{ltb, leb, eqb}
 use borrow.Author.Tests.{leb-true, eqb-true}
@@ -14,7 +15,8 @@ use Rattle.element.specs.Answer.{accepted}
 use Rattle.element.specs.Decoded.{lengthAt, identifierAt}
 use Rattle.element.proofs.LengthLaws as Length
 use Rattle.element.proofs.IdentifierLaws as Identifier
-use Rattle.component.specs.Layout.{Span, span, sizeOf, contents, spanOf, wanted, setAt, parameterAt, parameter}
+use Rattle.component.specs.Types.{Coding, uncoded, coded, familySize}
+use Rattle.component.specs.Layout.{Span, span, sizeOf, contents, spanOf, wanted, setAt, codedAt, codeAt, parameterAt, parameter}
 use Rattle.component.specs.Table.{Entry, next}
 use Rattle.component.proofs.Parts.{octets-between}
 use Rattle.component.proofs.Taken.{taken, passed}
@@ -44,7 +46,7 @@ module _ (s : Octets) (o : AreOctets s) where
           rw (← y) (record { behind = omega arith; ordered = omega arith; inside = i })
       go LV.Wrong p q = let z : _≡_ {A = ℕ} 0 1 = cc in absurd (omega arith)
 
-  pub wanted-inside : (octet number : ℕ) {at end : ℕ} {x : Span} → wanted s octet number at end ≡ accepted x → Held at end x
+  pub wanted-inside : (octet number : ℕ) {at end : ℕ} {x : Span} → wanted s octet number at end ≡ accepted x → Held (suc at) end x
   unfolding wanted
   wanted-inside octet number {at} {end} e =
       let (_, f) = passed (ltb at end) 5 end e in
@@ -52,13 +54,31 @@ module _ (s : Octets) (o : AreOctets s) where
       let h = inside at g in
       record { behind = omega arith; ordered = h .ordered; inside = h .inside }
 
-  pub set-inside : {at end : ℕ} {f : Span} → setAt s at end ≡ accepted f → Held at end f × (f .end ≡ end)
+  pub set-inside : {at end : ℕ} {f : Span} → setAt s at end ≡ accepted f → Held (suc at) end f × (f .end ≡ end)
   unfolding setAt
   set-inside {at} {end} {f} e =
       let (x, g, h) = taken (wanted s 0xF2 8 at end) e in
       let (k, p) = passed (eqb (x .end) end) _ (x .end) h in
       let y : x ≡ f = cc in
       rw (← y) (wanted-inside 0xF2 8 g, eqb-true (x .end) end k)
+
+  -- the code of an element that was found, behind the element's identifier
+  pub coded-inside : (octet number : ℕ) (family : Bool) (size : ℕ) {at end : ℕ} {x : Span} → codedAt s octet number family size at end ≡ accepted x → Held at end x
+  unfolding codedAt
+  coded-inside octet number family size {at} {end} {x} e =
+      let (d, g, h) = taken (wanted s octet number at end) e in
+      let (t, p) = passed (eqb (sizeOf d) (familySize family + size)) number at h in
+      let (_, q) = passed (not family || eqb (getD s (d .start) 0) 9) number at p in
+      let i = wanted-inside octet number g in
+      let n = eqb-true (sizeOf d) (familySize family + size) t in
+      let y : span (d .start + familySize family) (d .end) ≡ x = cc in
+      rw (← y) (record { behind = omega arith; ordered = omega arith; inside = i .inside })
+
+  -- the code of a type that was found, or the place where there is none
+  pub code-inside : (k : Coding) {at end : ℕ} {x : Span} → at ≤ end → codeAt s k at end ≡ accepted x → (at ≤ x .start) × (x .start ≤ x .end) × (x .end ≤ end)
+  unfolding codeAt
+  code-inside uncoded {at} {end} {x} h e = let y : span at at ≡ x = cc in rw (← y) (omega arith)
+  code-inside (coded octet number family size) h e = let i = coded-inside octet number family size e in (omega arith, i .ordered, i .inside)
 
   pub parameter-inside : {at end : ℕ} {e : Entry} → parameterAt s at end ≡ accepted e → Placed at end e
   unfolding parameterAt parameter

@@ -1,29 +1,32 @@
 -- The layout from its steps, wherever the component starts: where its parts stand, and what it comes to by the head's answer.
 use Prim.Native.Nat.{ℕ, zero, suc, _+_, _<_, _≤_}
-use mathlib.Core.Path.{_≡_, refl, sym}
+use mathlib.Core.Path.{_≡_}
 use mathlib.Core.List.{List}
 use lib.ListN.{length, getD}
 use lib.Dec.{ltb, leb}
 use borrow.Author.Tests.{le-leb, lt-ltb}
 use native.Mathlib.Omega.{arith}
 use Rattle.element.specs.Octets.{Octets, AreOctets}
-use Rattle.element.specs.Answer.{Answer, accepted, refused}
-use Rattle.element.proofs.Reading.{most, same}
-use Rattle.component.specs.declared.Heading as G
+use Rattle.element.specs.Answer.{accepted, refused}
+use Rattle.element.proofs.Reading.{most}
+use Rattle.component.specs.Types.{Typed, codingOf, typed, idFits}
 use Rattle.component.specs.Table.{Entry, next}
-use Rattle.component.specs.Layout.{Span, sizeOf, contents, wanted, setAt, Head, operation, invoke, result, headFrom, headAt, parameterAt, parameterFrom, parameters, Layout, layoutBehind, layoutAt}
-use Rattle.component.specs.Outline.{headingOf, headed, headingsAt}
-use Rattle.component.proofs.Ends.{Ends, gives, given, then, below, at-most, equal, either}
+use Rattle.component.specs.Layout.{Span, sizeOf, contents, wanted, setAt, Head, codeAt, behindId, bodyAt, headFrom, headAt, parameterAt, parameterFrom, parameters, Layout, layoutBehind, layoutAt}
+use Rattle.component.proofs.Ends.{Ends, gives, given, then, ask, below, at-most, equal}
 use Rattle.component.proofs.Asking.{Any, any}
-use Rattle.component.proofs.Taken.{taken, passed, stopped}
-use Rattle.component.proofs.Inside.{Placed, wanted-inside, set-inside, parameter-inside}
+use Rattle.component.proofs.Taken.{passed}
+use Rattle.component.proofs.Inside.{Placed, wanted-inside, set-inside, code-inside, parameter-inside}
+use Rattle.component.proofs.Typing.{is-known, fitting, most-two}
 
--- the set reaches to the end of the octets, and the specifier's place, 0 in a RESULT, is one of theirs
+-- where the parts of a head stand: at most two ID octets, the code with an octet behind it, and the set
 pub record Bounded (s : Octets) (h : Head) : Type 0 where
+  pub typed : Typed (h .kind)
   pub short : length s ≤ 4096
-  pub operation : h .operation < length s
-  pub starts : h .set .start ≤ length s
-  pub ends : h .set .end ≡ length s
+  pub ordered : h .id .start ≤ h .id .end
+  pub few : h .id .end ≤ h .id .start + 2
+  pub inside : h .id .end ≤ length s
+  pub coded : h .code + 1 < length s
+  pub starts : h .set ≤ length s
 
 pub record Ordered (s : Octets) (l : Layout) : Type 0 where
   pub head : Bounded s (l .head)
@@ -50,27 +53,24 @@ parameters-few s end (suc room) at =
 
 -- ---- the head, and the layout behind it
 module _ (s : Octets) (o : AreOctets s) where
-  module _ (short : length s ≤ 4096) (x : Span) (last : x .end ≡ length s) where
-    invoke-ends : Ends (Bounded s) Any (invoke s x)
-    unfolding invoke operation
-    invoke-ends =
-        then (any (wanted s 0xCF 6 (x .start) (x .end))) λ i _.
-        at-most Any (λ _. tt) λ (_ : sizeOf i ≤ 2).
-        then (any (wanted s 0xD1 7 (i .end) (x .end))) λ d e.
-        equal Any (λ _. tt) λ (two : sizeOf d ≡ 2).
-        equal Any (λ _. tt) λ (_ : getD s (d .start) 0 ≡ 9).
-        then (any (setAt s (d .end) (x .end))) λ f g.
-        let (h, k) = set-inside s o g in
-        gives (record { short = short; operation = omega (arith, wanted-inside s o 0xD1 7 e); starts = omega arith; ends = omega arith })
-
-    result-ends : 0 < length s → Ends (Bounded s) Any (result s x)
-    unfolding result
-    result-ends some =
-        then (any (wanted s 0xCF 6 (x .start) (x .end))) λ i _.
-        equal Any (λ _. tt) λ (_ : sizeOf i ≡ 1).
-        then (any (setAt s (i .end) (x .end))) λ f g.
-        let (h, k) = set-inside s o g in
-        gives (record { short = short; operation = some; starts = omega arith; ends = omega arith })
+  body-ends : length s ≤ 4096 → {kind : ℕ} → Typed kind → (x : Span) → x .end ≡ length s → Ends (Bounded s) Any (bodyAt s kind x)
+  unfolding bodyAt behindId
+  body-ends short {kind} typed x last =
+      then (any (wanted s 0xCF 6 (x .start) (x .end))) λ i a.
+      ask Any (idFits kind (sizeOf i)) (λ _. tt) λ b.
+      then (any (codeAt s (codingOf kind) (i .end) (x .end))) λ d e.
+      then (any (setAt s (d .end) (x .end))) λ f g.
+      let (h, k) = set-inside s o g in
+      let w = wanted-inside s o 0xCF 6 a in
+      gives (record {
+        typed = typed;
+        short = short;
+        ordered = w .ordered;
+        few = omega (arith, fitting kind _ b .1, most-two kind, w .ordered);
+        inside = omega arith;
+        coded = omega (arith, code-inside s o (codingOf kind) (omega (arith, w .inside)) e, h .behind, h .ordered);
+        starts = omega arith;
+      })
 
   module _ (from : ℕ) where
     head-ends : Ends (Bounded s) Any (headAt s from)
@@ -78,52 +78,34 @@ module _ (s : Octets) (o : AreOctets s) where
     head-ends =
         below Any (λ _. tt) λ (some : from < length s).
         at-most Any (λ _. tt) λ (short : length s ≤ 4096).
-        either Any tt λ (_ : (getD s from 0 ≡ 0xE9 → ⊥) → getD s from 0 ≡ 0xEA).
+        ask Any (typed (getD s from 0)) (λ _. tt) λ known.
         then (any (contents s from (from + 1) (length s))) λ x _.
         equal Any (λ _. tt) λ last.
-        same (Ends (Bounded s) Any) (λ (_ : getD s from 0 ≡ 0xE9). invoke-ends short x last) (λ _. result-ends short x last (omega arith))
+        body-ends short (is-known _ known) x last
 
     layout-ends : Ends (Ordered s) Any (layoutAt s from)
     unfolding layoutAt layoutBehind
     layout-ends =
         then head-ends λ h b.
-        then (parameters-few s (h .set .end) 64 (h .set .start)) λ es f.
+        then (parameters-few s (length s) 64 (h .set)) λ es f.
         gives (record { head = b; few = f })
 
     pub ordered : {l : Layout} → layoutAt s from ≡ accepted l → Ordered s l
     ordered e = given layout-ends e
 
+    pub bounds : {h : Head} → headAt s from ≡ accepted h → Bounded s h
+    bounds e = given head-ends e
+
     -- by the head that was found, and the parameters behind it
-    module _ {g : G.Heading} (e : accepted g ≡ headingsAt s from) where
-      found : (h : Head) × (headAt s from ≡ accepted h) × (g ≡ headingOf s h)
-      unfolding headingsAt headed
-      found = let (h, f, q) = taken (headAt s from) (sym e) in (h, f, cc)
-
-      pub bounds : (g .set ≤ length s) × (length s ≤ 4096)
-      unfolding headingOf
-      bounds =
-          let (h, f, q) = found in
-          let b = given head-ends f in
-          let r : g .set ≡ h .set .start = cc in
-          omega arith
-
-      its-set : (h : Head) → headAt s from ≡ accepted h → g ≡ headingOf s h → {a : Answer (List Entry)} → parameters 64 s (g .set) (length s) ≡ a →
-          parameters 64 s (h .set .start) (h .set .end) ≡ a
-      unfolding headingOf
-      its-set h f q p =
-          let last = given head-ends f .ends in
-          let r : g .set ≡ h .set .start = cc in
-          rw (last, ← r) p
-
-      pub laid : (es : List Entry) → parameters 64 s (g .set) (length s) ≡ accepted es →
-          (l : Layout) × (layoutAt s from ≡ accepted l) × (g ≡ headingOf s (l .head)) × (es ≡ l .entries)
+    module _ {h : Head} (e : accepted h ≡ headAt s from) where
+      pub laid : (es : List Entry) → parameters 64 s (h .set) (length s) ≡ accepted es → layoutAt s from ≡ accepted (record { head = h; entries = es })
       unfolding layoutAt layoutBehind
-      laid es p = let (h, f, q) = found in (record { head = h; entries = es }, simp (f, its-set h f q p), q, refl)
+      laid es p = rw (← e, p)
 
-      pub not-laid : {n d : ℕ} → parameters 64 s (g .set) (length s) ≡ refused n d → layoutAt s from ≡ refused n d
+      pub not-laid : {n d : ℕ} → parameters 64 s (h .set) (length s) ≡ refused n d → layoutAt s from ≡ refused n d
       unfolding layoutAt layoutBehind
-      not-laid p = let (h, f, q) = found in simp (f, its-set h f q p)
+      not-laid p = rw (← e, p)
 
-    pub no-head : {n d : ℕ} → refused n d ≡ headingsAt s from → layoutAt s from ≡ refused n d
-    unfolding headingsAt headed layoutAt
-    no-head e = stopped (headAt s from) (headingOf s) (layoutBehind s) (sym e)
+    pub no-head : {n d : ℕ} → refused n d ≡ headAt s from → layoutAt s from ≡ refused n d
+    unfolding layoutAt
+    no-head e = rw (← e)

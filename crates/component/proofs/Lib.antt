@@ -1,4 +1,5 @@
 pub mod Composable
+pub mod Typing
 pub mod Shown
 pub mod Parts
 pub mod Fitting

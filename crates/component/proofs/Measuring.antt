@@ -1,28 +1,22 @@
 -- Each way out of what is measured and composed, as one law: what the tests on the way say, and the outcome; and back from an outcome.
 use Prim.Native.Nat.{ℕ, _*_, _<_, _≤_}
 use mathlib.Core.Path.{_≡_, refl}
-use mathlib.Core.Bool.{Bool, true, false, _||_}
+use mathlib.Core.Bool.{Bool, true, false}
 use mathlib.Core.List.{List}
 use lib.ListN.{length}
-use lib.Dec.{leb, eqb}
-use borrow.Author.Tests.{le-leb, lt-leb, leb-true, eq-eqb, ne-eqb}
+use lib.Dec.{leb}
+use borrow.Author.Tests.{le-leb, lt-leb, leb-true}
 use Rattle.element.specs.Octets.{Octets}
 use Rattle.element.specs.Answer.{Answer, accepted, refused, _>>=_, _>>_, check}
 use Rattle.component.specs.declared.Id as D
+use Rattle.component.specs.Types.{Allowed, typed, idFits}
 use Rattle.component.specs.Grammar.{Parameter}
 use Rattle.component.specs.Needed.{elementSize, setSize, bodySize, octetsNeeded}
 use Rattle.component.specs.Table.{width}
-use Rattle.component.specs.Composing.{idFits, entriesFrom, entriesOf, Sizes, measured}
+use Rattle.component.specs.Composing.{entriesFrom, entriesOf, Sizes, measured}
 use Rattle.component.specs.inner.Emitting.{sized, measuredOf}
 use Rattle.component.proofs.Taken.{taken, passed}
-use Rattle.component.proofs.Composition.{Kinds, kinds}
-
--- the kinds that there are
-pub invoke-known : (kind : ℕ) → kind ≡ 0xE9 → (eqb kind 0xE9 || eqb kind 0xEA) ≡ true
-invoke-known kind e = simp (eq-eqb kind 0xE9)
-
-pub result-known : (kind : ℕ) → kind ≡ 0xEA → (eqb kind 0xE9 || eqb kind 0xEA) ≡ true
-result-known kind e = rw e
+use Rattle.component.proofs.Typing.{allowed}
 
 -- the last two steps: 15, and what is told
 abbrev pub checked : (kind id : ℕ) → List Parameter → Answer (List Parameter)
@@ -41,11 +35,11 @@ through kind id (accepted ps) = told (leb (octetsNeeded kind id ps) 4096) 15 (oc
 through kind id (refused n d) = refl
 
 module _ (kind : ℕ) (id : D.Id) (count : ℕ) (t : List ℕ) (source : Octets) where
-  pub no-kind : (kind ≡ 0xE9 → ⊥) → (kind ≡ 0xEA → ⊥) → refused 3 0 ≡ measured kind id count t source
+  pub no-kind : typed kind ≡ false → refused 3 0 ≡ measured kind id count t source
   unfolding measured entriesOf
-  no-kind h k = simp (ne-eqb kind 0xE9 h, ne-eqb kind 0xEA k)
+  no-kind e = simp e
 
-  module _ (known : (eqb kind 0xE9 || eqb kind 0xEA) ≡ true) where
+  module _ (known : typed kind ≡ true) where
     pub no-id : idFits kind (id .count) ≡ false → refused 6 0 ≡ measured kind id count t source
     unfolding measured entriesOf
     no-id e = simp (known, e)
@@ -83,7 +77,7 @@ module _ (kind id set : ℕ) {whole body : ℕ} (e : whole ≡ elementSize 1 bod
 -- back from what is accepted
 module _ (kind : ℕ) (id : D.Id) (count : ℕ) (t : List ℕ) (source : Octets) where
   pub record Ready (ps : List Parameter) : Type 0 where
-    pub allowed : Kinds kind (id .count)
+    pub allowed : Allowed kind (id .count)
     pub few : count ≤ 64
     pub room : width * count ≤ length t
     pub entries : entriesFrom 0 count t source ≡ accepted ps
@@ -92,11 +86,11 @@ module _ (kind : ℕ) (id : D.Id) (count : ℕ) (t : List ℕ) (source : Octets)
   pub ready : {ps : List Parameter} → entriesOf kind id count t source ≡ accepted ps → Ready ps
   unfolding entriesOf
   ready {ps} e =
-      let (k, a) = passed (eqb kind 0xE9 || eqb kind 0xEA) 3 0 e in
+      let (k, a) = passed (typed kind) 3 0 e in
       let (f, b) = passed (idFits kind (id .count)) 6 0 a in
       let (m, c) = passed (leb count 64) 10 0 b in
       let (r, d) = passed (leb (width * count) (length t)) 1 0 c in
       let (qs, x, y) = taken (entriesFrom 0 count t source) d in
       let (l, z) = passed (leb (octetsNeeded kind (id .count) qs) 4096) 15 (octetsNeeded kind (id .count) qs) y in
       let same : qs ≡ ps = cc in
-      rw (← same) (record { allowed = kinds kind (id .count) k f; few = leb-true _ _ m; room = leb-true _ _ r; entries = x; short = leb-true _ _ l })
+      rw (← same) (record { allowed = allowed kind (id .count) k f; few = leb-true _ _ m; room = leb-true _ _ r; entries = x; short = leb-true _ _ l })

@@ -10,11 +10,14 @@ use Rattle.element.specs.Octets.{Octets}
 use Rattle.element.specs.Answer.{Answer, accepted, refused}
 use Rattle.element.specs.Field.{put}
 use Rattle.component.specs.declared.Id as D
+use Rattle.component.specs.declared.Code as E
 use Rattle.component.specs.Composed.{setOf, composed}
 use Rattle.component.specs.Needed.{setSize, bodySize, octetsNeeded}
-use Rattle.component.specs.Composing.{entriesOf, Sizes, measured, octetsOf, composing, written, outputAfter}
+use Rattle.component.specs.Composing.{entriesOf, Sizes, measured, octetsOf, composing}
+use Rattle.element.specs.Output.{written, outputAfter}
 use Rattle.component.specs.Table.{width, parametersFrom, componentOf}
 use Rattle.component.specs.inner.Emitting.{Put, headOctets, AllStand}
+use Rattle.component.proofs.Typing.{two-at-most}
 use Rattle.component.proofs.Putting.{then}
 use Rattle.component.proofs.Composition as composition
 use Rattle.component.proofs.Taken.{taken, stopped}
@@ -57,11 +60,11 @@ module _ (kind : ℕ) (id : D.Id) (count : ℕ) (t : List ℕ) (source : Octets)
         set-is = rw (← l) (sym (ap (λ (s : Sizes). s .set) z));
       }
 
-  pub refusal : (specifier : ℕ) (out : Octets) {n d : ℕ} → refused n d ≡ measured kind id count t source →
-      Outcome (composing kind id specifier count t source (length out)) out (refused n d) out
+  pub refusal : (code : E.Code) (out : Octets) {n d : ℕ} → refused n d ≡ measured kind id count t source →
+      Outcome (composing kind id code count t source (length out)) out (refused n d) out
   unfolding measured composing
-  refusal specifier out e =
-      unchanged out (stopped (entriesOf kind id count t source) (sizesOf kind (id .count)) (λ ps. octetsOf kind id specifier ps (length out)) (sym e))
+  refusal code out e =
+      unchanged out (stopped (entriesOf kind id count t source) (sizesOf kind (id .count)) (λ ps. octetsOf kind id code ps (length out)) (sym e))
 
   module _ {whole body set : ℕ} (f : Found whole body set) where
     pub short : whole ≤ 4096
@@ -70,32 +73,32 @@ module _ (kind : ℕ) (id : D.Id) (count : ℕ) (t : List ℕ) (source : Octets)
     short-set : set ≤ 4096
     short-set = rw (f .set-is) (composition.short-set kind (id .count) (parametersFrom 0 count t source) (f .ready .short))
 
-    module _ (specifier : ℕ) (out : Octets) where
-      pub no-room : length out < whole → Outcome (composing kind id specifier count t source (length out)) out (refused 17 whole) out
+    module _ (code : E.Code) (out : Octets) where
+      pub no-room : length out < whole → Outcome (composing kind id code count t source (length out)) out (refused 17 whole) out
       unfolding composing octetsOf
       no-room h = unchanged out (simp (f .is, ← f .whole-is, lt-leb whole (length out) h))
 
-      octets : composed (componentOf kind id specifier (parametersFrom 0 count t source))
-          ≡ headOctets kind id specifier body set ++ setOf (parametersFrom 0 count t source)
-      octets = rw (f .body-is, f .set-is) (composition.parts kind id specifier (parametersFrom 0 count t source) (f .ready .allowed) (f .ready .short))
+      octets : composed (componentOf kind id code (parametersFrom 0 count t source))
+          ≡ headOctets kind id code body set ++ setOf (parametersFrom 0 count t source)
+      octets = rw (f .body-is, f .set-is) (composition.parts kind id code (parametersFrom 0 count t source) (f .ready .allowed) (f .ready .short))
 
-      lengths : length (headOctets kind id specifier body set) + length (setOf (parametersFrom 0 count t source)) ≡ whole
+      lengths : length (headOctets kind id code body set) + length (setOf (parametersFrom 0 count t source)) ≡ whole
       lengths =
-          sym (length-append (headOctets kind id specifier body set) (setOf (parametersFrom 0 count t source))) ∙ ap length (sym octets)
-          ∙ composition.whole kind id specifier (parametersFrom 0 count t source) (f .ready .allowed) (f .ready .short) ∙ sym (f .whole-is)
+          sym (length-append (headOctets kind id code body set) (setOf (parametersFrom 0 count t source))) ∙ ap length (sym octets)
+          ∙ composition.whole kind id code (parametersFrom 0 count t source) (f .ready .allowed) (f .ready .short) ∙ sym (f .whole-is)
 
       module _ (h : whole ≤ length out) where
-        pub head-ready : (id .count ≤ 2) × (body < 65536) × (set < 65536) × (length (headOctets kind id specifier body set) ≤ length out)
+        pub head-ready : (id .count ≤ 2) × (body < 65536) × (set < 65536) × (length (headOctets kind id code body set) ≤ length out)
         head-ready =
             let s : body ≤ 4096 = rw (f .body-is) (composition.short-body kind (id .count) (parametersFrom 0 count t source) (f .ready .short)) in
-            (composition.two-at-most (f .ready .allowed), omega arith, omega (arith, short-set), omega (arith, lengths))
+            (two-at-most (f .ready .allowed), omega arith, omega (arith, short-set), omega (arith, lengths))
 
-        module _ {next : ℕ} {mid : Octets} (p : Put (headOctets kind id specifier body set) 0 out next mid) where
+        module _ {next : ℕ} {mid : Octets} (p : Put (headOctets kind id code body set) 0 out next mid) where
           pub set-ready : length mid ≡ length out → (count ≤ 64) × (width * count ≤ length t) × AllStand count t source
               × (next + length (setOf (parametersFrom 0 count t source)) ≤ length mid)
           set-ready e = (f .ready .few, f .ready .room, stand t source count (f .ready .entries), omega (arith, lengths, p .place))
 
           pub all-put : {last : ℕ} {after : Octets} → Put (setOf (parametersFrom 0 count t source)) next mid last after →
-              Outcome (composing kind id specifier count t source (length out)) out (accepted last) after
+              Outcome (composing kind id code count t source (length out)) out (accepted last) after
           unfolding composing octetsOf
           all-put q = changed (rw (← octets) at (then p q (omega arith))) (simp (f .is, ← f .whole-is, le-leb whole (length out) h))

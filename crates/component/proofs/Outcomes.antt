@@ -8,26 +8,26 @@ use Rattle.component.specs.declared.Count as C
 use Rattle.component.specs.declared.Count.the-variants as CV
 use Rattle.component.specs.declared.Head as H
 use Rattle.component.specs.declared.Head.the-variants as HV
-use Rattle.component.specs.declared.Heading as G
 use Rattle.component.specs.declared.Parameter as P
 use Rattle.component.specs.declared.Parameter.the-variants as PV
 use Rattle.component.specs.declared.Measured as M
 use Rattle.component.specs.declared.Measured.the-variants as MV
+use Rattle.component.specs.Layout.{Head}
 use Rattle.component.specs.Table.{Entry}
 use Rattle.component.specs.Composing.{Sizes}
-use Rattle.component.specs.Told.{headingIn, entryIn, countIn, measureIn}
+use Rattle.component.specs.Told.{headIn, entryIn, countIn, measureIn}
 
 -- `head_from`
-abbrev headFor : Answer G.Heading → H.Head
-headFor (accepted g) = HV.Found g
+abbrev headFor : Answer Head → H.Head
+headFor (accepted h) = HV.Found (record { kind = h .kind; id = h .id .start; behind = h .id .end; code = h .code; set = h .set })
 headFor (refused n d) = HV.Refused n d
 
-same-head : (x : H.Head) → headFor (headingIn x) ≡ x
+same-head : (x : H.Head) → headFor (headIn x) ≡ x
 same-head (HV.Found g) = refl
 same-head (HV.Refused n d) = refl
 
-pub one-head : {x y : H.Head} {told : Answer G.Heading} → headingIn x ≡ told → headingIn y ≡ told → x ≡ y
-one-head = one-told headingIn headFor same-head
+pub one-head : {x y : H.Head} {told : Answer Head} → headIn x ≡ told → headIn y ≡ told → x ≡ y
+one-head = one-told headIn headFor same-head
 
 -- `parameter_from`
 abbrev parameterFor : Answer Entry → P.Parameter

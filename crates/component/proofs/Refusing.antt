@@ -1,31 +1,32 @@
 -- What has a fault is refused with its number and detail.
 use Prim.Native.Nat.{ℕ, suc, _+_, _-_, _<_, _≤_}
 use mathlib.Core.Path.{_≡_, refl, sym, ap, _∙_}
-use mathlib.Core.Bool.{true, false, _||_}
+use mathlib.Core.Bool.{Bool, true, false, _||_, not}
 use mathlib.Core.List.{[], _∷_, _++_, append-assoc, append-nil}
-use mathlib.Core.Logic.{_⊎_, inl, inr, ⊎-elim}
 use lib.ListN.{length, take, drop, getD, length-append, take-append-drop}
 use lib.Seq.{drop-drop, drop-append-seam, getD-drop}
 use lib.Dec.{eqb}
 use borrow.Author.Tests.{lt-ltb, le-ltb, le-leb, lt-leb, eq-eqb, ne-eqb}
 use native.Mathlib.Nat.{add-zero, zero-add}
-use native.Mathlib.Decide.{decLt}
+use native.Mathlib.Decide.{ℕ-discrete}
 use native.Mathlib.Omega.{arith}
 use Rattle.element.specs.declared.Length as L
 use Rattle.element.specs.declared.Length.the-variants as LV
 use Rattle.element.specs.declared.Identifier as I
 use Rattle.element.specs.declared.Identifier.the-variants as IV
 use Rattle.element.specs.Octets.{Octets, AreOctets, between}
-use Rattle.element.specs.Answer.{Answer, accepted, refused, _>>=_, _>>_}
+use Rattle.element.specs.Answer.{Answer, accepted, refused, _>>=_, _>>_, check}
 use Rattle.element.specs.Length.{short}
 use Rattle.element.specs.Decoded.{lengthAt, identifierAt}
 use Rattle.element.proofs.LengthLaws as Length
 use Rattle.element.proofs.IdentifierLaws as Identifier
-use Rattle.component.specs.Layout.{Span, sizeOf, contents, spanOf, wanted, setAt, Head, operation, invoke, result, headAt, headFrom, parameter, parameterAt, parameters, Layout, layoutOf, layoutAt, layoutBehind}
-use Rattle.component.specs.Grammar.{Element, laid}
-use Rattle.component.specs.Faults.{component, NoField, NoIdentifier, Unheld, no-field, overrun, Unfound, ended, other, left, InSet, NoSet, NoOperation, NoBody, Whole, Faulty}
-use Rattle.component.specs.Faults as F
+use Rattle.component.specs.Layout.{Span, span, sizeOf, contents, spanOf, wanted, setAt, Head, codedAt, codeAt, behindId, bodyAt, headAt, headFrom, parameter, parameterAt, parameters, Layout, layoutOf, layoutAt, layoutBehind}
+use Rattle.component.specs.Types.{Coding, coded, codingOf, Typed, withFamily, familySize}
+use Rattle.component.specs.Grammar.{Element, laid, Coded, absent, present}
+use Rattle.component.specs.Faults.{component, NoField, NoIdentifier, Unheld, no-field, overrun, Unfound, ended, other, left, InSet, NoSet, NoCode, NoBody, Whole, Faulty}
 use Rattle.component.proofs.Parts.{octets-between, to-end}
+use Rattle.component.proofs.Typing.{known, unknown, fits, misfits}
+use Rattle.component.proofs.Deciding.{ask}
 
 -- ---- no field and no identifier are read where none begins
 wrong : {s : Octets} → AreOctets s → NoField s → lengthAt s ≡ LV.Wrong
@@ -104,7 +105,7 @@ module _ (s : Octets) where
 
   -- what a head goes on with
   walk : Head → Answer Layout
-  walk h = parameters 64 s (h .set .start) (h .set .end) >>= λ es. accepted (record { head = h; entries = es })
+  walk h = parameters 64 s (h .set) (length s) >>= λ es. accepted (record { head = h; entries = es })
 
 begun : {head t : Octets} {at n d : ℕ} → Unheld component head at t n d → (u : Octets) × (t ≡ head ++ u)
 begun (no-field u h) = (u, refl)
@@ -152,9 +153,9 @@ module _ (s : Octets) (o : AreOctets s) where
       rw (lt-leb (length s) at (omega (arith, q .ends, Identifier.sizes i)), seen s q, Identifier.complete i u, g, m, k)
 
   -- ---- the head, and the walk over the parameters behind it
-  module _ (kind : ℕ) (id : Span) (operation : ℕ) where
+  module _ (kind : ℕ) (id : Span) (code : ℕ) where
     abbrev headed : Span → Answer Head
-    headed f = accepted (record { kind = kind; id = id; operation = operation; set = f })
+    headed f = accepted (record { kind = kind; id = id; code = code; set = f .start })
 
     set-refused : {at : ℕ} {t : Octets} {n d : ℕ} → NoSet at t n d → Rest s at t → ((setAt s at (length s) >>= headed) >>= walk s) ≡ refused n d
     unfolding setAt walk
@@ -171,87 +172,78 @@ module _ (s : Octets) (o : AreOctets s) where
         let h : x .end ≡ length s = omega (arith, b .ends, r .ends) in
         let e : at + (1 + length field) ≡ x .start = omega (arith, b .size, b .ends, b .order) in
         let k = parameters-refused (rw e at i) (again s (append-nil set) (b .starts)) in
-        rw (g, eq-eqb (x .end) (length s) h, h, k)
+        rw (g, eq-eqb (x .end) (length s) h, k)
 
-  not-code : {start size : ℕ} (body rest : Octets) → Rest s start (body ++ rest) → size ≡ length body →
-      ((specifier : ℕ) → body ≡ 9 ∷ specifier ∷ [] → ⊥) → (eqb size 2 ≡ false) ⊎ ((eqb size 2 ≡ true) × (eqb (getD s start 0) 9 ≡ false))
-  not-code {size = size} [] rest r e h = inl (ne-eqb size 2 (omega arith))
-  not-code {size = size} (a ∷ []) rest r e h = inl (ne-eqb size 2 (omega arith))
-  not-code {size = size} (a ∷ b ∷ []) rest r e h = inr (eq-eqb size 2 e, rw (first s r) (ne-eqb a 9 (λ nine. h b (rw nine))))
-  not-code {size = size} (a ∷ b ∷ c ∷ body) rest r e h = inl (ne-eqb size 2 (omega arith))
+  -- ---- the code
+  not-code : (family : Bool) {A : Type 0} {start size have n d : ℕ} (a : Answer A) (body rest : Octets) → Rest s start (body ++ rest) → have ≡ length body →
+      ((code : Octets) → length code ≡ size → body ≡ withFamily family code → ⊥) →
+      (check (eqb have (familySize family + size)) n d >> (check (not family || eqb (getD s start 0) 9) n d >> a)) ≡ refused n d
+  not-code true {size = size} {have} a [] rest r e h = rw (ne-eqb have (1 + size) (omega arith))
+  not-code true {size = size} {have} a (b ∷ body) rest r e h =
+      ask (ℕ-discrete (length body) size)
+      (λ l. rw (eq-eqb have (1 + size) (omega arith), first s r, ne-eqb b 9 (λ nine. h body l (rw nine))))
+      (λ k. rw (ne-eqb have (1 + size) (λ q. k (omega arith))))
+  not-code false {size = size} {have} a body rest r e h = rw (ne-eqb have (0 + size) (λ q. h body (omega arith) refl))
 
-  operation-refused : (i : Span) {t : Octets} {n d : ℕ} → NoOperation (i .end) t n d → Rest s (i .end) t → (operation s i (length s) >>= walk s) ≡ refused n d
-  unfolding operation
-  operation-refused i (NoOperation.unfound f) r = rw (wanted-refused f r)
-  operation-refused i (NoOperation.another {body} rest l h) r =
-      let (x, g, b) = wanted-found s 7 l r in
-      ⊎-elim (λ (p : eqb (sizeOf x) 2 ≡ false). rw (g, p)) (λ (p : (eqb (sizeOf x) 2 ≡ true) × (eqb (getD s (x .start) 0) 9 ≡ false)). rw (g, p .0, p .1))
-      (not-code body rest (b .starts) (b .size) h)
-  operation-refused i (NoOperation.behind {e = e} {rest} l f) r =
-      let (x, g, b) = wanted-found s 7 l r in
-      let q : i .end + length e ≡ x .end = sym (b .ends) in
-      rw (g, eq-eqb (sizeOf x) 2 (b .size), first s (b .starts)) (set-refused 0xE9 i (x .start + 1) (rw q at f) (moved s q (behind s e r)))
+  code-found : {coding : Coding} {at : ℕ} {code e : Octets} (rest : Octets) → Coded coding code e → Rest s at (e ++ rest) →
+      (x : Span) × (codeAt s coding at (length s) ≡ accepted x) × (at + length e ≡ x .end)
+  unfolding codeAt codedAt
+  code-found {at = at} rest absent r = (span at at, refl, omega arith)
+  code-found {coding = coded octet number true size} rest (present l w) r =
+      let (x, g, b) = wanted-found s number w r in
+      (span (x .start + 1) (x .end), rw (g, eq-eqb (sizeOf x) (1 + size) (omega (arith, b .size)), first s (b .starts)), sym (b .ends))
+  code-found {coding = coded octet number false size} rest (present l w) r =
+      let (x, g, b) = wanted-found s number w r in
+      (span (x .start + 0) (x .end), rw (g, eq-eqb (sizeOf x) (0 + size) (omega (arith, b .size))), sym (b .ends))
+
+  code-refused : (kind : ℕ) (i : Span) {t : Octets} {n d : ℕ} → NoCode (i .end) (codingOf kind) t n d → Rest s (i .end) t →
+      (behindId s kind i (length s) >>= walk s) ≡ refused n d
+  unfolding behindId codeAt codedAt
+  code-refused kind i f r = go (codingOf kind) f r
+    where
+      go : (coding : Coding) {t : Octets} {n d : ℕ} → NoCode (i .end) coding t n d → Rest s (i .end) t →
+          ((codeAt s coding (i .end) (length s) >>= λ d. setAt s (d .end) (length s) >>= headed kind i (d .start)) >>= walk s) ≡ refused n d
+      go (coded octet number family size) (NoCode.unfound f) r = rw (wanted-refused f r)
+      go (coded octet number family size) (NoCode.another {body} rest l h) r =
+          let (x, g, b) = wanted-found s number l r in
+          rw (g, not-code family _ body rest (b .starts) (b .size) h)
+      go coding (NoCode.behind {e = e} {rest = rest} w f) r =
+          let (x, g, q) = code-found rest w r in
+          rw g (set-refused kind i (x .start) (rw q at f) (moved s q (behind s e r)))
 
   -- the contents of a component
-  module _ (x : Span) (last : x .end ≡ length s) where
-    invoke-refused : {t : Octets} {n d : ℕ} → NoBody 0xE9 (x .start) t n d → Rest s (x .start) t → (invoke s x >>= walk s) ≡ refused n d
-    unfolding invoke
-    invoke-refused (NoBody.unfound f) r = rw (last, wanted-refused f r)
-    invoke-refused (NoBody.sized {id} rest l h) r =
-        let (i, g, b) = wanted-found s 6 l r in
-        let k : 2 < sizeOf i = not-small h (b .size) in
-        rw (last, g, lt-leb (sizeOf i) 2 k)
-      where
-        not-small : {size : ℕ} → (F.Allowed 0xE9 (length id) → ⊥) → size ≡ length id → 2 < size
-        not-small {size} h e = go (decLt 2 size)
-          where
-            go : Dec (2 < size) → 2 < size
-            go (yes k) = k
-            go (no k) = absurd (h (inl (refl, omega arith)))
-    invoke-refused (NoBody.invoked {i = j} k l h f) r =
-        let (i, g, b) = wanted-found s 6 l r in
-        let e : x .start + length j ≡ i .end = sym (b .ends) in
-        rw (last, g, le-leb (sizeOf i) 2 (omega (arith, b .size))) (operation-refused i (rw e at f) (moved s e (behind s j r)))
-    invoke-refused (NoBody.answered k l h f) r = absurd (omega arith)
-
-    result-refused : {t : Octets} {n d : ℕ} → NoBody 0xEA (x .start) t n d → Rest s (x .start) t → (result s x >>= walk s) ≡ refused n d
-    unfolding result
-    result-refused (NoBody.unfound f) r = rw (last, wanted-refused f r)
-    result-refused (NoBody.sized rest l h) r =
-        let (i, g, b) = wanted-found s 6 l r in
-        rw (last, g, ne-eqb (sizeOf i) 1 (λ k. h (inr (refl, sym (b .size) ∙ k))))
-    result-refused (NoBody.invoked k l h f) r = absurd (omega arith)
-    result-refused (NoBody.answered {i = j} k l h f) r =
-        let (i, g, b) = wanted-found s 6 l r in
-        let e : x .start + length j ≡ i .end = sym (b .ends) in
-        rw (last, g, eq-eqb (sizeOf i) 1 (b .size ∙ h)) (set-refused 0xEA i 0 (rw e at f) (moved s e (behind s j r)))
-
-known : {kind : ℕ} → F.Typed kind → (eqb kind 0xE9 || eqb kind 0xEA) ≡ true
-known (inl e) = rw e
-known (inr e) = rw e
+  body-refused : {kind : ℕ} → Typed kind → (x : Span) → x .end ≡ length s → {t : Octets} {n d : ℕ} → NoBody kind (x .start) t n d → Rest s (x .start) t →
+      (bodyAt s kind x >>= walk s) ≡ refused n d
+  unfolding bodyAt
+  body-refused typed x last (NoBody.unfound f) r = rw (last, wanted-refused f r)
+  body-refused typed x last (NoBody.sized rest l h) r =
+      let (i, g, b) = wanted-found s 6 l r in
+      rw (last, g, b .size, misfits typed h)
+  body-refused {kind} typed x last (NoBody.behind {i = j} l a f) r =
+      let (i, g, b) = wanted-found s 6 l r in
+      let e : x .start + length j ≡ i .end = sym (b .ends) in
+      rw (last, g, b .size, fits a) (code-refused kind i (rw e at f) (moved s e (behind s j r)))
 
 all : (s : Octets) → Rest s 0 s
 all s = record { octets = refl; ends = zero-add (length s) }
 
 -- a component of a type, within 4,096 octets
 module _ (s : Octets) (o : AreOctets s) (short : length s ≤ 4096) (some : 0 < length s) where
-  opened : F.Typed (getD s 0 0) → {n d : ℕ} → contents s 0 1 (length s) ≡ refused n d → layoutOf s ≡ refused n d
+  opened : Typed (getD s 0 0) → {n d : ℕ} → contents s 0 1 (length s) ≡ refused n d → layoutOf s ≡ refused n d
   unfolding layoutAt layoutBehind headAt headFrom
   opened typed e = rw (lt-ltb 0 (length s) some, le-leb (length s) 4096 short, known typed, e)
 
-  longer : F.Typed (getD s 0 0) → {x : Span} → contents s 0 1 (length s) ≡ accepted x → x .end < length s → layoutOf s ≡ refused (component .rest) (x .end)
+  longer : Typed (getD s 0 0) → {x : Span} → contents s 0 1 (length s) ≡ accepted x → x .end < length s → layoutOf s ≡ refused (component .rest) (x .end)
   unfolding layoutAt layoutBehind headAt headFrom
   longer typed {x} e h = rw (lt-ltb 0 (length s) some, le-leb (length s) 4096 short, known typed, e, ne-eqb (x .end) (length s) (omega arith))
 
-  filled : F.Typed (getD s 0 0) → {x : Span} → contents s 0 1 (length s) ≡ accepted x → x .end ≡ length s → {t : Octets} {n d : ℕ} →
+  filled : Typed (getD s 0 0) → {x : Span} → contents s 0 1 (length s) ≡ accepted x → x .end ≡ length s → {t : Octets} {n d : ℕ} →
       NoBody (getD s 0 0) (x .start) t n d → Rest s (x .start) t → layoutOf s ≡ refused n d
   unfolding layoutAt layoutBehind headAt headFrom walk
-  filled (inl k) {x} e last f r =
-      rw (lt-ltb 0 (length s) some, le-leb (length s) 4096 short, k, e, eq-eqb (x .end) (length s) last) (invoke-refused s o x last (rw k at f) r)
-  filled (inr k) {x} e last f r =
-      rw (lt-ltb 0 (length s) some, le-leb (length s) 4096 short, k, e, eq-eqb (x .end) (length s) last) (result-refused s o x last (rw k at f) r)
+  filled typed {x} e last f r =
+      rw (lt-ltb 0 (length s) some, le-leb (length s) 4096 short, known typed, e, eq-eqb (x .end) (length s) last) (body-refused s o typed x last f r)
 
-  whole-refused : {kind : ℕ} {t : Octets} {n d : ℕ} → s ≡ t → F.Typed kind → Whole kind t n d → layoutOf s ≡ refused n d
+  whole-refused : {kind : ℕ} {t : Octets} {n d : ℕ} → s ≡ t → Typed kind → Whole kind t n d → layoutOf s ≡ refused n d
   whole-refused p typed (Whole.unheld f) =
       let (u, e) = begun f in
       let r = again s p (all s) in
@@ -282,5 +274,5 @@ pub refuses : {s : Octets} → AreOctets s → {n d : ℕ} → Faulty n d s → 
 unfolding layoutAt layoutBehind headAt headFrom
 refuses o Faulty.empty = refl
 refuses {s} o (Faulty.long h) = rw (lt-ltb 0 (length s) (omega arith), lt-leb (length s) 4096 h)
-refuses {s} o (Faulty.untyped {a} h f) = rw (lt-ltb 0 (length s) (omega arith), le-leb (length s) 4096 h, ne-eqb a 0xE9 (λ e. f (inl e)), ne-eqb a 0xEA (λ e. f (inr e)))
+refuses {s} o (Faulty.untyped {a} h f) = rw (lt-ltb 0 (length s) (omega arith), le-leb (length s) 4096 h, unknown f)
 refuses {s} o (Faulty.whole h typed f) = whole-refused s o h (some f) refl typed f

@@ -1,5 +1,5 @@
 -- The layout of a component behind other octets is that of the component alone, with every place moved on by as many.
-use Prim.Native.Nat.{ℕ, zero, suc, _+_, _-_}
+use Prim.Native.Nat.{ℕ, zero, suc, _+_, _-_, _<_, _≤_}
 use mathlib.Core.Path.{_≡_, refl, sym, _∙_}
 use mathlib.Core.Bool.{Bool, true, false, _||_, not}
 use mathlib.Core.List.{_++_, map}
@@ -17,7 +17,9 @@ use Rattle.element.specs.Octets.{Octets, if, between}
 use Rattle.element.specs.Answer.{Answer, accepted, refused, _>>=_, _>>_, check}
 use Rattle.element.specs.Decoded.{lengthAt, identifierAt}
 use Rattle.component.specs.Table.{next}
-use Rattle.component.specs.Layout.{Span, sizeOf, spanOf, contents, wanted, setAt, operation, invoke, result, Head, headFrom, parameter, parameterAt, parameters, Layout, layoutBehind, layoutFrom, specifierIn}
+use Rattle.component.specs.Layout.{Span, span, sizeOf, spanOf, contents, wanted, setAt, codedAt, codeAt, behindId, bodyAt, Head, headFrom, parameter, parameterAt, parameters, Layout, layoutBehind, layoutFrom, codeOctets}
+use Rattle.component.specs.Types.{Coding, uncoded, coded, codingOf, familySize, typed, idFits}
+use Rattle.component.proofs.Typing.{of-each}
 use Rattle.component.specs.Onward.{spanOn, entryOn, headOn, layoutOn, answerOn, keeps}
 
 -- ---- tests of two places that are moved alike
@@ -75,6 +77,10 @@ module _ {A : Type 0} {n : ℕ} {R : A → A → Type 0} where
   ask true q h o = rw q o
   ask false q h o = rw q (stop h)
 
+  asked : (t : Bool) {k d e : ℕ} {a b : Answer A} → Detail n k d e → (t ≡ true → On n R a b) → On n R (check t k d >> a) (check t k e >> b)
+  asked true h o = o refl
+  asked false h o = stop h
+
   choose : (t : Bool) {u : Bool} {a b c d : Answer A} → u ≡ t → On n R a b → On n R c d → On n R (if t a c) (if u b d)
   choose true q x y = rw q x
   choose false q x y = rw q y
@@ -98,19 +104,25 @@ module _ (pre c : Octets) where
   pub part : (a b : ℕ) → between (n + a) (n + b) s ≡ between a b c
   part a b = rw (less-on n b a, dropped a) refl
 
-  spans : (at from end : ℕ) (l : L.Length) → On n (By (spanOn n)) (spanOf at from end l) (spanOf (n + at) (n + from) (n + end) l)
+  -- what was found behind `from`
+  record SpanOn (from : ℕ) (x y : Span) : Type 0 where
+    is : y ≡ spanOn n x
+    behind : from ≤ x .start
+    ordered : x .start ≤ x .end
+
+  spans : (at from end : ℕ) (l : L.Length) → On n (SpanOn from) (spanOf at from end l) (spanOf (n + at) (n + from) (n + end) l)
   unfolding spanOf
   spans at from end (LV.Is value octets) =
       let p : n + from + octets ≡ n + (from + octets) = omega arith in
       let q : n + (from + octets) + value ≡ n + (from + octets + value) = omega arith in
-      rw (p, q) (ask _ (leb-on n (from + octets + value) end) (there refl) (both refl))
+      rw (p, q) (ask _ (leb-on n (from + octets + value) end) (there refl) (both (record { is = refl; behind = omega arith; ordered = omega arith })))
   spans at from end LV.Wrong = stop (there refl)
 
-  contents-on : (at from end : ℕ) → On n (By (spanOn n)) (contents c at from end) (contents s (n + at) (n + from) (n + end))
+  contents-on : (at from end : ℕ) → On n (SpanOn from) (contents c at from end) (contents s (n + at) (n + from) (n + end))
   unfolding contents
   contents-on at from end = rw (part from end) (spans at from end (lengthAt (between from end c)))
 
-  wanted-on : (octet number at end : ℕ) → keeps number at ≡ false → On n (By (spanOn n)) (wanted c octet number at end) (wanted s octet number (n + at) (n + end))
+  wanted-on : (octet number at end : ℕ) → keeps number at ≡ false → On n (SpanOn (at + 1)) (wanted c octet number at end) (wanted s octet number (n + at) (n + end))
   unfolding wanted
   wanted-on octet number at end h =
       let p : n + at + 1 ≡ n + (at + 1) = omega arith in
@@ -123,44 +135,46 @@ module _ (pre c : Octets) where
   unfolding setAt
   set-on at end =
       then (wanted-on 0xF2 8 at end refl) λ f g e.
-      rw e (ask _ (eqb-on n (f .end) end) (there refl) (both refl))
+      rw (e .is) (ask _ (eqb-on n (f .end) end) (there refl) (both refl))
 
-  -- a head further on; 11 points somewhere in an INVOKE alone
+  -- ---- the head; a refusal of the code points to its element
+  abbrev Points : Coding → Type 0
+  Points uncoded = Unit
+  Points (coded octet number family size) = (d : ℕ) → keeps number d ≡ false
+
+  points : (kind : ℕ) → Points (codingOf kind)
+  points = of-each (λ f. Points (f .coding)) (λ d. refl) tt (λ d. refl) (λ d. refl)
+
+  code-on : (coding : Coding) → Points coding → (at end : ℕ) → On n (SpanOn at) (codeAt c coding at end) (codeAt s coding (n + at) (n + end))
+  unfolding codeAt codedAt
+  code-on uncoded p at end = both {x = span at at} (record { is = refl; behind = omega arith; ordered = omega arith })
+  code-on (coded octet number family size) p at end =
+      then (wanted-on octet number at end (p at)) λ d d′ e.
+      let q : n + d .start + familySize family ≡ n + (d .start + familySize family) = omega arith in
+      rw (e .is, less-on n (d .end) (d .start), seen (d .start), q)
+      (asked (eqb (sizeOf d) (familySize family + size)) (there (p at)) λ k.
+      (ask (not family || eqb (getD c (d .start) 0) 9) refl (there (p at))
+      (both (record { is = refl; behind = omega (arith, e .behind); ordered = omega (arith, eqb-true (sizeOf d) (familySize family + size) k, e .ordered) }))))
+
+  -- the code stands behind an octet
   record HeadOn (h h′ : Head) : Type 0 where
     is : h′ ≡ headOn n h
-    points : eqb (h .operation) 0 ≡ not (eqb (h .kind) 0xE9)
+    points : 0 < h .code
 
-  operation-on : (i : Span) (end : ℕ) → On n HeadOn (operation c i end) (operation s (spanOn n i) (n + end))
-  unfolding operation
-  operation-on i end =
-      then (wanted-on 0xD1 7 (i .end) end refl) λ d d′ e.
-      let p : n + d .start + 1 ≡ n + (d .start + 1) = omega arith in
-      rw (e, less-on n (d .end) (d .start), seen (d .start), p)
-      (ask (eqb (sizeOf d) 2) refl (there refl)
-      (ask (eqb (getD c (d .start) 0) 9) refl (there refl)
-      (then (set-on (d .end) end) λ f f′ e′. both (record { is = rw e′ refl; points = ne-eqb (d .start + 1) 0 (λ z. absurd (omega arith)) }))))
-
-  invoke-on : (x : Span) → On n HeadOn (invoke c x) (invoke s (spanOn n x))
-  unfolding invoke
-  invoke-on x =
-      then (wanted-on 0xCF 6 (x .start) (x .end) refl) λ i i′ e.
-      rw (e, less-on n (i .end) (i .start))
-      (ask (leb (sizeOf i) 2) refl (there refl)
-      (operation-on i (x .end)))
-
-  result-on : (x : Span) → On n HeadOn (result c x) (result s (spanOn n x))
-  unfolding result
-  result-on x =
-      then (wanted-on 0xCF 6 (x .start) (x .end) refl) λ i i′ e.
-      rw (e, less-on n (i .end) (i .start))
-      (ask (eqb (sizeOf i) 1) refl (there refl)
-      (then (set-on (i .end) (x .end)) λ f f′ e′. both (record { is = rw e′ refl; points = refl })))
+  body-on : (kind : ℕ) (x : Span) → On n HeadOn (bodyAt c kind x) (bodyAt s kind (spanOn n x))
+  unfolding bodyAt behindId
+  body-on kind x =
+      then (wanted-on 0xCF 6 (x .start) (x .end) refl) λ i i′ a.
+      rw (a .is, less-on n (i .end) (i .start))
+      (ask (idFits kind (sizeOf i)) refl (there refl)
+      (then (code-on (codingOf kind) (points kind) (i .end) (x .end)) λ d d′ b.
+      rw (b .is) (then (set-on (d .end) (x .end)) λ f f′ e. both (record { is = rw e refl; points = omega (arith, a .behind, a .ordered, b .behind) }))))
 
   parameter-on : (at end : ℕ) (i : I.Identifier) → On n (By (entryOn n)) (parameter c at end i) (parameter s (n + at) (n + end) i)
   unfolding parameter
   parameter-on at end (IV.Is number form octets) =
       let p : n + at + octets ≡ n + (at + octets) = omega arith in
-      rw p (then (contents-on at (at + octets) end) λ x y e. both (rw (e, less-on n (x .end) (x .start)) refl))
+      rw p (then (contents-on at (at + octets) end) λ x y e. both (rw (e .is, less-on n (x .end) (x .start)) refl))
   parameter-on at end IV.IllFormed = stop (there refl)
   parameter-on at end IV.TooLarge = stop (there refl)
 
@@ -182,28 +196,25 @@ module _ (pre c : Octets) where
   head-on =
       let z : getD s n 0 ≡ getD c 0 0 = rw (add-zero n) at (seen 0) in
       let l : length s ≡ n + length c = length-append pre c in
-      let w : On n (By (spanOn n)) (contents c 0 1 (length c)) (contents s n (n + 1) (n + length c)) = rw (add-zero n) at (contents-on 0 1 (length c)) in
+      let w : On n (SpanOn 1) (contents c 0 1 (length c)) (contents s n (n + 1) (n + length c)) = rw (add-zero n) at (contents-on 0 1 (length c)) in
       rw (z, l)
-      (ask (eqb (getD c 0 0) 0xE9 || eqb (getD c 0 0) 0xEA) refl (kept refl)
+      (ask (typed (getD c 0 0)) refl (kept refl)
       (then w λ x y e.
-      rw e
+      rw (e .is)
       (ask _ (eqb-on n (x .end) (length c)) (there refl)
-      (choose (eqb (getD c 0 0) 0xE9) refl (invoke-on x) (result-on x)))))
+      (body-on (getD c 0 0) x))))
 
   pub record LayoutOn (l l′ : Layout) : Type 0 where
     pub is : l′ ≡ layoutOn n l
-    pub points : eqb (l .head .operation) 0 ≡ not (eqb (l .head .kind) 0xE9)
+    pub points : 0 < l .head .code
 
   pub layout-on : On n LayoutOn (layoutFrom c 0) (layoutFrom s n)
   unfolding layoutFrom layoutBehind
   layout-on =
+      let l : length s ≡ n + length c = length-append pre c in
       then head-on λ h h′ e.
-      rw (e .is) (then (parameters-on 64 (h .set .start) (h .set .end)) λ xs ys e′. both (record { is = rw e′ refl; points = e .points }))
+      rw (e .is, l) (then (parameters-on 64 (h .set) (length c)) λ xs ys e′. both (record { is = rw e′ refl; points = e .points }))
 
-  pub specifier-on : (l : Layout) (given : ℕ) → specifierIn s (layoutOn n l) given ≡ specifierIn c l given
-  unfolding specifierIn
-  specifier-on l given = go (eqb (l .head .kind) 0xE9)
-    where
-      go : (t : Bool) → if t (getD s (if t (n + l .head .operation) 0) 0) given ≡ if t (getD c (l .head .operation) 0) given
-      go true = seen (l .head .operation)
-      go false = refl
+  pub code-octets-on : (h : Head) → codeOctets s (headOn n h) ≡ codeOctets c h
+  unfolding codeOctets
+  code-octets-on h = rw (dropped (h .code)) refl

@@ -1,6 +1,5 @@
--- How a layout shows a component: type, ID octets, specifier, and each parameter by an entry, one of no octets
--- included.
-use Prim.Native.Nat.{ℕ, _+_, _-_, _≤_}
+-- How a layout shows a component: type, ID octets, code, and each parameter by an entry, one of no octets included.
+use Prim.Native.Nat.{_+_, _-_, _≤_}
 use mathlib.Core.Path.{_≡_, refl, _∙_}
 use mathlib.Core.List.{List, [], _++_, append-assoc, append-nil}
 use lib.ListN.{length, take, drop, length-append}
@@ -10,8 +9,8 @@ use Rattle.element.specs.Octets.{Octets, between}
 use Rattle.element.specs.Identifier.{IdentifierField}
 use Rattle.component.specs.Table.{Entry}
 use Rattle.component.specs.Standing.{entryAt, Shows, Pairwise, none, more, entriesAt, standing}
-use Rattle.component.specs.Layout.{specifierIn, Layout}
-use Rattle.component.specs.Grammar.{Parameter, Element, laid, Parameters, Component, Laid, invoked, answered, parametersOf, kindOf, identifierOf, specifierOf}
+use Rattle.component.specs.Layout.{codeOctets, Layout}
+use Rattle.component.specs.Grammar.{Parameter, Element, laid, Parameters, Component, Laid}
 
 module _ {s : Octets} {e : Entry} {p : Parameter} (h : Shows s e p) where
   abbrev front : Octets
@@ -64,13 +63,12 @@ set-show {head = head} {set} {kind = kind} r before (laid field v) (laid length-
     let at : length (front ++ set) - length set ≡ length front = omega (arith, length-append front set) in
     rw (f, at) (rw append-nil at (entries-show front r []))
 
-pub standing-show : {c : Component} {s : Octets} (h : Laid c s) → Pairwise (Shows s) (standing h) (parametersOf c)
+pub standing-show : {c : Component} {s : Octets} (h : Laid c s) → Pairwise (Shows s) (standing h) (c .parameters)
 unfolding standing
-standing-show (invoked id specifier ps i o f set s a b w n r v x) = set-show r (i ++ o) v x
-standing-show (answered id ps i f set s a w r v x) = set-show r i v x
+standing-show h = set-show (h .parameters) (h .id ++ h .code) (h .collected) (h .whole)
 
 pub record Outlines (s : Octets) (l : Layout) (c : Component) : Type 0 where
-  pub kind : l .head .kind ≡ kindOf c
-  pub id : between (l .head .id .start) (l .head .id .end) s ≡ identifierOf c
-  pub specifier : (given : ℕ) → specifierIn s l given ≡ specifierOf c given
-  pub shows : Pairwise (Shows s) (l .entries) (parametersOf c)
+  pub kind : l .head .kind ≡ c .kind
+  pub id : between (l .head .id .start) (l .head .id .end) s ≡ c .id
+  pub code : codeOctets s (l .head) ≡ c .code
+  pub shows : Pairwise (Shows s) (l .entries) (c .parameters)

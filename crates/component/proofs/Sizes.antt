@@ -1,6 +1,7 @@
 -- How many octets a component takes: as many as are counted, where the octets or the count stay below 65,536.
-use Prim.Native.Nat.{ℕ, min, _<_}
+use Prim.Native.Nat.{ℕ, min, _+_, _<_}
 use mathlib.Core.Path.{_≡_, refl, ap, _∙_}
+use mathlib.Core.Bool.{Bool, true, false}
 use mathlib.Core.List.{List, [], _∷_, _++_}
 use lib.ListN.{length, length-append}
 use native.Mathlib.Omega.{arith}
@@ -9,14 +10,15 @@ use Rattle.element.specs.Length.{shortest}
 use Rattle.element.specs.Identifier.{identifier}
 use Rattle.element.proofs.LengthLaws as L
 use Rattle.element.proofs.IdentifierLaws as I
-use Rattle.component.specs.Grammar.{Parameter, Component, Invoke, Result, parametersOf, kindOf, identifierOf}
-use Rattle.component.specs.Composed.{element, setOf, composed}
-use Rattle.component.specs.Needed.{elementSize, setSize, bodySize, octetsNeeded}
+use Rattle.component.specs.Types.{Coding, uncoded, coded, codingOf, withFamily, familySize, codeSize}
+use Rattle.component.specs.Grammar.{Parameter, Component}
+use Rattle.component.specs.Composed.{element, setOf, codeElement, composed}
+use Rattle.component.specs.Needed.{elementSize, setSize, codingSize, bodySize, octetsNeeded}
 
 abbrev pub Same : (octets count : ℕ) → Type 0
 Same m n = min m n < 65536 → m ≡ n
 
-pub element-length : (head body : Octets) → length body < 65536 → length (element head body) ≡ elementSize (length head) (length body)
+element-length : (head body : Octets) → length body < 65536 → length (element head body) ≡ elementSize (length head) (length body)
 unfolding element elementSize
 element-length head body h = simp (length-append, L.size (length body) h)
 
@@ -37,21 +39,30 @@ same-set (p ∷ ps) h =
     let f = rw (I.size (p .number) (p .form)) at (same-element i (p .content) (λ _. refl)) in
     omega (arith, f (omega arith), same-set ps (omega arith))
 
-coded : (specifier : ℕ) → length (element (0xD1 ∷ []) (9 ∷ specifier ∷ [])) ≡ 4
-unfolding element shortest
-coded specifier = refl
+family-length : (family : Bool) (code : Octets) {size : ℕ} → length code ≡ size → length (withFamily family code) ≡ familySize family + size
+family-length true code e = omega arith
+family-length false code e = omega arith
 
-pub sized : (c : Component) → Same (length (composed c)) (octetsNeeded (kindOf c) (length (identifierOf c)) (parametersOf c))
-unfolding composed octetsNeeded bodySize
-sized (Invoke id specifier ps) = same-element (0xE9 ∷ []) _ λ h.
-    let i = element (0xCF ∷ []) id in
-    let f = element (0xF2 ∷ []) (setOf ps) in
-    let o = element (0xD1 ∷ []) (9 ∷ specifier ∷ []) in
-    let k = length-append (i ++ o) f in
-    let l = length-append i o in
-    omega (arith, coded specifier, same-element (0xCF ∷ []) id (λ _. refl) (omega arith), same-element (0xF2 ∷ []) (setOf ps) (same-set ps) (omega arith))
-sized (Result id ps) = same-element (0xEA ∷ []) _ λ h.
-    let i = element (0xCF ∷ []) id in
-    let f = element (0xF2 ∷ []) (setOf ps) in
-    let k = length-append i f in
-    omega (arith, same-element (0xCF ∷ []) id (λ _. refl) (omega arith), same-element (0xF2 ∷ []) (setOf ps) (same-set ps) (omega arith))
+same-code : (coding : Coding) (code : Octets) → length code ≡ codeSize coding → Same (length (codeElement coding code)) (codingSize coding)
+unfolding codeElement codingSize
+same-code uncoded code e = λ _. refl
+same-code (coded octet number family size) code e = same-element (octet ∷ []) (withFamily family code) λ _. family-length family code e
+
+-- the contents of the type's element
+unfoldable pub bodyOf : Component → Octets
+bodyOf c = element (0xCF ∷ []) (c .id) ++ codeElement (codingOf (c .kind)) (c .code) ++ element (0xF2 ∷ []) (setOf (c .parameters))
+
+module _ (c : Component) (code : length (c .code) ≡ codeSize (codingOf (c .kind))) where
+  pub same-body : Same (length (bodyOf c)) (bodySize (c .kind) (length (c .id)) (setSize (c .parameters)))
+  unfolding bodyOf bodySize
+  same-body h =
+      let i = element (0xCF ∷ []) (c .id) in
+      let o = codeElement (codingOf (c .kind)) (c .code) in
+      let f = element (0xF2 ∷ []) (setOf (c .parameters)) in
+      let k = length-append (i ++ o) f in
+      let l = length-append i o in
+      omega (arith, same-element (0xCF ∷ []) (c .id) (λ _. refl) (omega arith), same-code (codingOf (c .kind)) (c .code) code (omega arith), same-element (0xF2 ∷ []) (setOf (c .parameters)) (same-set (c .parameters)) (omega arith))
+
+  pub sized : Same (length (composed c)) (octetsNeeded (c .kind) (length (c .id)) (c .parameters))
+  unfolding composed bodyOf octetsNeeded
+  sized = same-element (c .kind ∷ []) (bodyOf c) same-body

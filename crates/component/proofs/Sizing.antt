@@ -4,13 +4,14 @@ use mathlib.Core.Path.{_≡_, refl}
 use mathlib.Core.Bool.{false}
 use lib.ListN.{length}
 use lib.Dec.{leb}
-use borrow.Author.Tests.{lt-ltb, le-leb, lt-leb, eq-eqb, ne-eqb}
+use borrow.Author.Tests.{lt-ltb, le-leb, lt-leb}
 use native.Mathlib.Omega.{arith}
 use Rattle.element.specs.Octets.{Octets}
 use Rattle.element.specs.Length.{fieldSize}
 use Rattle.element.specs.Identifier.{identifierSize}
+use Rattle.component.specs.Types.{codingOf}
 use Rattle.component.specs.Part.{fits}
-use Rattle.component.specs.Needed.{elementSize, bodySize}
+use Rattle.component.specs.Needed.{elementSize, codingSize, bodySize}
 use Rattle.component.specs.Table.{Entry}
 use Rattle.component.specs.Composing.{entryStands}
 
@@ -27,14 +28,9 @@ unfolding identifierSize
 one-octet number h = simp (lt-ltb number 31)
 
 -- an ID has at most two octets, so its length field is one
-module _ (kind id set : ℕ) (few : id ≤ 2) where
-  pub with-operation : kind ≡ 0xE9 → 2 + id + elementSize 1 set + 4 ≡ bodySize kind id set
-  unfolding bodySize elementSize fieldSize
-  with-operation h = simp (eq-eqb kind 0xE9, lt-ltb id 128 (omega arith)) (omega arith)
-
-  pub without : (kind ≡ 0xE9 → ⊥) → 2 + id + elementSize 1 set ≡ bodySize kind id set
-  unfolding bodySize elementSize fieldSize
-  without h = simp (ne-eqb kind 0xE9, lt-ltb id 128 (omega arith)) (omega arith)
+pub body-size : (kind id set : ℕ) → id ≤ 2 → 2 + id + codingSize (codingOf kind) + elementSize 1 set ≡ bodySize kind id set
+unfolding bodySize elementSize fieldSize
+body-size kind id set few = simp (lt-ltb id 128 (omega arith)) (omega arith)
 
 module _ (source : Octets) (e : Entry) where
   pub no-number : 16383 < e .number → false ≡ entryStands source e

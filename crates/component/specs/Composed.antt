@@ -4,7 +4,8 @@ use lib.ListN.{length}
 use Rattle.element.specs.Octets.{Octets}
 use Rattle.element.specs.Length.{shortest}
 use Rattle.element.specs.Identifier.{identifier}
-use Rattle.component.specs.Grammar.{Parameter, Component, Invoke, Result}
+use Rattle.component.specs.Types.{Coding, uncoded, coded, codingOf, withFamily}
+use Rattle.component.specs.Grammar.{Parameter, Component}
 
 unfoldable pub element : (head body : Octets) → Octets
 element head body = head ++ shortest (length body) ++ body
@@ -13,9 +14,11 @@ unfoldable pub setOf : List Parameter → Octets
 setOf [] = []
 setOf (p ∷ ps) = element (identifier (p .number) (p .form)) (p .content) ++ setOf ps
 
+unfoldable pub codeElement : Coding → (code : Octets) → Octets
+codeElement uncoded code = []
+codeElement (coded octet number family size) code = element (octet ∷ []) (withFamily family code)
+
 unfoldable pub composed : Component → Octets
-composed (Invoke id specifier ps) =
-    element (0xE9 ∷ [])
-    (element (0xCF ∷ []) id ++ element (0xD1 ∷ []) (9 ∷ specifier ∷ []) ++ element (0xF2 ∷ []) (setOf ps))
-composed (Result id ps) =
-    element (0xEA ∷ []) (element (0xCF ∷ []) id ++ element (0xF2 ∷ []) (setOf ps))
+composed c =
+    element (c .kind ∷ [])
+    (element (0xCF ∷ []) (c .id) ++ codeElement (codingOf (c .kind)) (c .code) ++ element (0xF2 ∷ []) (setOf (c .parameters)))

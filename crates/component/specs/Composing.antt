@@ -1,12 +1,14 @@
 -- What a writer composes from a table of entries and the source they point into, up to the refusals that need no row.
 use Prim.Native.Nat.{ℕ, _+_, _*_}
-use mathlib.Core.Bool.{Bool, _&&_, _||_}
-use mathlib.Core.List.{List, [], _∷_, _++_}
-use lib.ListN.{length, drop}
-use lib.Dec.{leb, eqb}
-use Rattle.element.specs.Octets.{Octets, if}
-use Rattle.element.specs.Answer.{Answer, accepted, refused, _>>=_, _>>_, check}
+use mathlib.Core.Bool.{Bool, _&&_}
+use mathlib.Core.List.{List, [], _∷_}
+use lib.ListN.{length}
+use lib.Dec.{leb}
+use Rattle.element.specs.Octets.{Octets}
+use Rattle.element.specs.Answer.{Answer, accepted, _>>=_, _>>_, check}
 use Rattle.component.specs.declared.Id as D
+use Rattle.component.specs.declared.Code as E
+use Rattle.component.specs.Types.{typed, idFits}
 use Rattle.component.specs.Grammar.{Parameter}
 use Rattle.component.specs.Composed.{composed}
 use Rattle.component.specs.Part.{fits}
@@ -29,14 +31,11 @@ abbrev pub entriesFrom : (i count : ℕ) (table : List ℕ) (source : Octets) �
 entriesFrom i count t source = takenFrom i source (heldFrom i count t)
 
 -- ---- the component
-unfoldable pub idFits : (kind count : ℕ) → Bool
-idFits kind count = if (eqb kind 0xE9) (leb count 2) (eqb count 1)
-
 -- the parameters that are to be written
 unfoldable pub entriesOf : (kind : ℕ) (id : D.Id) (count : ℕ) (table : List ℕ) (source : Octets) →
     Answer (List Parameter)
 entriesOf kind id count table source = do
-  check (eqb kind 0xE9 || eqb kind 0xEA) 3 0
+  check (typed kind) 3 0
   check (idFits kind (id .count)) 6 0
   check (leb count 64) 10 0
   check (leb (width * count) (length table)) 1 0
@@ -59,24 +58,13 @@ measured kind id count table source = do
   })
 
 -- the octets of those parameters, where the output has room for them
-unfoldable pub octetsOf : (kind : ℕ) (id : D.Id) (specifier : ℕ) → List Parameter → (room : ℕ) → Answer Octets
-octetsOf kind id specifier ps room = do
+unfoldable pub octetsOf : (kind : ℕ) (id : D.Id) (code : E.Code) → List Parameter → (room : ℕ) → Answer Octets
+octetsOf kind id code ps room = do
   check (leb (octetsNeeded kind (id .count) ps) room) 17 (octetsNeeded kind (id .count) ps)
-  accepted (composed (componentOf kind id specifier ps))
+  accepted (composed (componentOf kind id code ps))
 
-unfoldable pub composing : (kind : ℕ) (id : D.Id) (specifier count : ℕ) (table : List ℕ) (source : Octets) (room : ℕ) →
-    Answer Octets
-composing kind id specifier count table source room = do
+unfoldable pub composing : (kind : ℕ) (id : D.Id) (code : E.Code) (count : ℕ) (table : List ℕ) (source : Octets)
+    (room : ℕ) → Answer Octets
+composing kind id code count table source room = do
   ps ← entriesOf kind id count table source
-  octetsOf kind id specifier ps room
-
--- how many octets were written
-unfoldable pub written : Answer Octets → Answer ℕ
-written a = do
-  s ← a
-  accepted (length s)
-
--- only the leading octets change, and on a refusal none
-unfoldable pub outputAfter : Octets → Answer Octets → Octets
-outputAfter out (accepted s) = s ++ drop (length s) out
-outputAfter out (refused n d) = out
+  octetsOf kind id code ps room

@@ -1,16 +1,17 @@
 -- The faults of a component, the twin of `Laid`: which octets have the paper's `number` and `detail`. What is laid
 -- out stands first, and
--- behind it what cannot be; `at` counts the octets before it. E9, EA and F2 end where their parent ends, so every
--- parent ends with the octets.
+-- behind it what cannot be; `at` counts the octets before it. The element of the type and F2 end where their parent
+-- ends, so every parent ends with the octets.
 use Prim.Native.Nat.{ℕ, zero, suc, _+_, _<_, _≤_}
 use mathlib.Core.Path.{_≡_}
+use mathlib.Core.Bool.{Bool}
 use mathlib.Core.List.{[], _∷_, _++_}
-use mathlib.Core.Logic.{_⊎_}
 use lib.ListN.{length}
 use Rattle.element.specs.Octets.{Octets}
 use Rattle.element.specs.Length.{LengthField}
 use Rattle.element.specs.Identifier.{IdentifierField}
-use Rattle.component.specs.Grammar.{Element, Component, Laid, parametersOf}
+use Rattle.component.specs.Types.{Coding, coded, codingOf, Typed, Allowed, withFamily}
+use Rattle.component.specs.Grammar.{Element, Component, Coded, Laid}
 
 -- ---- one element, under whatever numbers its faults have
 pub record Numbers : Type 0 where
@@ -65,37 +66,26 @@ pub data NoSet (at : ℕ) : Octets → (number detail : ℕ) → Type 0 where
   inside : {field set : Octets} {n d : ℕ} → LengthField (length set) field → InSet 64 (at + (1 + length field)) set n d
       → NoSet at (0xF2 ∷ (field ++ set)) n d
 
--- ---- the operation code and what stands behind it: 7 for another octet, and for contents that are not the family 9
--- and a specifier
-pub data NoOperation (at : ℕ) : Octets → (number detail : ℕ) → Type 0 where
-  unfound : {s : Octets} {n d : ℕ} → Unfound component 0xD1 7 at s n d → NoOperation at s n d
-  another : {body e : Octets} (rest : Octets) → Element (0xD1 ∷ []) body e → ((specifier : ℕ) → body ≡ 9 ∷
-      specifier ∷ [] → ⊥)
-      → NoOperation at (e ++ rest) 7 at
-  behind : {specifier : ℕ} {e rest : Octets} {n d : ℕ} → Element (0xD1 ∷ []) (9 ∷ specifier ∷ []) e →
-      NoSet (at + length e) rest n d
-      → NoOperation at (e ++ rest) n d
+-- ---- the code and what stands behind it: its number for another octet, and for contents that are not a code
+pub data NoCode (at : ℕ) : Coding → Octets → (number detail : ℕ) → Type 0 where
+  unfound : {octet number size : ℕ} {family : Bool} {s : Octets} {n d : ℕ} → Unfound component octet number at s n d →
+      NoCode at (coded octet number family size) s n d
+  another : {octet number size : ℕ} {family : Bool} {body e : Octets} (rest : Octets) → Element (octet ∷ []) body e →
+      ((code : Octets) → length code ≡ size → body ≡ withFamily family code → ⊥) →
+      NoCode at (coded octet number family size) (e ++ rest) number at
+  behind : {coding : Coding} {code e rest : Octets} {n d : ℕ} → Coded coding code e → NoSet (at + length e) rest n d →
+      NoCode at coding (e ++ rest) n d
 
 -- ---- the component ID and what stands behind it, in a component of this type: 6 for another octet, or a length not
 -- allowed
-abbrev pub Allowed : (kind size : ℕ) → Type 0
-Allowed kind size = ((kind ≡ 0xE9) × (size ≤ 2)) ⊎ ((kind ≡ 0xEA) × (size ≡ 1))
-
 pub data NoBody (kind at : ℕ) : Octets → (number detail : ℕ) → Type 0 where
   unfound : {s : Octets} {n d : ℕ} → Unfound component 0xCF 6 at s n d → NoBody kind at s n d
   sized : {id i : Octets} (rest : Octets) → Element (0xCF ∷ []) id i → (Allowed kind (length id) → ⊥) →
       NoBody kind at (i ++ rest) 6 at
-  invoked : {id i rest : Octets} {n d : ℕ} → kind ≡ 0xE9 → Element (0xCF ∷ []) id i → length id ≤ 2 →
-      NoOperation (at + length i) rest n d
-      → NoBody kind at (i ++ rest) n d
-  answered : {id i rest : Octets} {n d : ℕ} → kind ≡ 0xEA → Element (0xCF ∷ []) id i → length id ≡ 1 →
-      NoSet (at + length i) rest n d
-      → NoBody kind at (i ++ rest) n d
+  behind : {id i rest : Octets} {n d : ℕ} → Element (0xCF ∷ []) id i → Allowed kind (length id) →
+      NoCode (at + length i) (codingOf kind) rest n d → NoBody kind at (i ++ rest) n d
 
--- ---- the component: 2, 3, then E9 or EA, whose length field stands at 1
-abbrev pub Typed : ℕ → Type 0
-Typed kind = (kind ≡ 0xE9) ⊎ (kind ≡ 0xEA)
-
+-- ---- the component: 2, 3, then the element of the type, whose length field stands at 1
 pub data Whole (kind : ℕ) : Octets → (number detail : ℕ) → Type 0 where
   unheld : {s : Octets} {n d : ℕ} → Unheld component (kind ∷ []) 0 s n d → Whole kind s n d
   left-over : {s : Octets} {n d : ℕ} → LeftOver component (kind ∷ []) 0 s n d → Whole kind s n d
@@ -112,4 +102,4 @@ pub data Faulty : (number detail : ℕ) → Octets → Type 0 where
 pub record LaidOut (c : Component) (s : Octets) : Type 0 where
   pub laid : Laid c s
   pub within : length s ≤ 4096
-  pub few : length (parametersOf c) ≤ 64
+  pub few : length (c .parameters) ≤ 64

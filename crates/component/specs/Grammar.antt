@@ -1,11 +1,13 @@
 -- The grammar: which octets lay out which component, as the paper words it. No order of checks, no position.
-use Prim.Native.Nat.{ℕ, _<_, _≤_}
+use Prim.Native.Nat.{ℕ}
 use mathlib.Core.Path.{_≡_}
+use mathlib.Core.Bool.{Bool}
 use mathlib.Core.List.{List, [], _∷_, _++_}
 use lib.ListN.{length}
 use Rattle.element.specs.Octets.{Octets}
 use Rattle.element.specs.Length.{LengthField}
 use Rattle.element.specs.Identifier.{IdentifierField}
+use Rattle.component.specs.Types.{Coding, uncoded, coded, codingOf, Allowed, withFamily}
 
 pub record Parameter : Type 0 where
   pub number : ℕ
@@ -22,34 +24,28 @@ pub data Parameters : List Parameter → Octets → Type 0 where
       IdentifierField (p .number) (p .form) head → Element head (p .content) s → Parameters ps rest →
       Parameters (p ∷ ps) (s ++ rest)
 
-pub data Component : Type 0 where
-  Invoke : (id : Octets) (specifier : ℕ) (ps : List Parameter) → Component
-  Result : (id : Octets) (ps : List Parameter) → Component
+-- the code as it stands in the octets: none in a RESULT
+pub record Component : Type 0 where
+  pub kind : ℕ
+  pub id : Octets
+  pub code : Octets
+  pub parameters : List Parameter
 
-pub data Laid : Component → Octets → Type 0 where
-  invoked : (id : Octets) (specifier : ℕ) (ps : List Parameter) (i o f set whole : Octets) → length id ≤ 2 →
-      specifier < 256
-      → Element (0xCF ∷ []) id i → Element (0xD1 ∷ []) (9 ∷ specifier ∷ []) o → Parameters ps set → Element (0xF2 ∷
-      []) set f
-      → Element (0xE9 ∷ []) (i ++ o ++ f) whole → Laid (Invoke id specifier ps) whole
-  answered : (id : Octets) (ps : List Parameter) (i f set whole : Octets) → length id ≡ 1
-      → Element (0xCF ∷ []) id i → Parameters ps set → Element (0xF2 ∷ []) set f
-      → Element (0xEA ∷ []) (i ++ f) whole → Laid (Result id ps) whole
+-- the element of the code
+pub data Coded : Coding → (code : Octets) → Octets → Type 0 where
+  absent : Coded uncoded [] []
+  present : {octet number size : ℕ} {family : Bool} {code s : Octets} → length code ≡ size →
+      Element (octet ∷ []) (withFamily family code) s → Coded (coded octet number family size) code s
 
--- ---- what a component is, apart from its octets
-abbrev pub parametersOf : Component → List Parameter
-parametersOf (Invoke id specifier ps) = ps
-parametersOf (Result id ps) = ps
-
-abbrev pub kindOf : Component → ℕ
-kindOf (Invoke id specifier ps) = 0xE9
-kindOf (Result id ps) = 0xEA
-
-abbrev pub identifierOf : Component → Octets
-identifierOf (Invoke id specifier ps) = id
-identifierOf (Result id ps) = id
-
--- an INVOKE carries its specifier, a RESULT has the one that is handed in
-abbrev pub specifierOf : Component → (given : ℕ) → ℕ
-specifierOf (Invoke id specifier ps) given = specifier
-specifierOf (Result id ps) given = given
+-- the component ID, the code and the set of parameters, in the element of the type
+pub record Laid (c : Component) (s : Octets) : Type 0 where
+  pub id : Octets
+  pub code : Octets
+  pub set : Octets
+  pub contents : Octets
+  pub allowed : Allowed (c .kind) (length (c .id))
+  pub identified : Element (0xCF ∷ []) (c .id) id
+  pub encoded : Coded (codingOf (c .kind)) (c .code) code
+  pub parameters : Parameters (c .parameters) contents
+  pub collected : Element (0xF2 ∷ []) contents set
+  pub whole : Element (c .kind ∷ []) (id ++ code ++ set) s

@@ -1,8 +1,8 @@
 -- The layout of one component, as the reader decides it from left to right.
 use Prim.Native.Nat.{ℕ, zero, suc, _+_, _-_}
-use mathlib.Core.Bool.{_||_}
+use mathlib.Core.Bool.{Bool, _||_, not}
 use mathlib.Core.List.{List, [], _∷_}
-use lib.ListN.{length, getD}
+use lib.ListN.{length, getD, take, drop}
 use lib.Dec.{ltb, leb, eqb}
 use Rattle.element.specs.declared.Length as L
 use Rattle.element.specs.declared.Length.the-variants as LV
@@ -11,6 +11,7 @@ use Rattle.element.specs.declared.Identifier.the-variants as IV
 use Rattle.element.specs.Octets.{Octets, if, between}
 use Rattle.element.specs.Answer.{Answer, accepted, refused, _>>=_, _>>_, check}
 use Rattle.element.specs.Decoded.{lengthAt, identifierAt}
+use Rattle.component.specs.Types.{Coding, uncoded, coded, codingOf, familySize, codeSize, typed, idFits}
 use Rattle.component.specs.Table.{Entry, next}
 
 -- ---- one element
@@ -49,41 +50,45 @@ setAt s at end = do
   accepted f
 
 -- ---- all but the parameters
+-- the component ID, and where the code and the parameters start; where there is no code, the set stands
 pub record Head : Type 0 where
   pub kind : ℕ
   pub id : Span
-  pub operation : ℕ  -- the specifier's place in an INVOKE, 0 in a RESULT
-  pub set : Span
+  pub code : ℕ
+  pub set : ℕ
 
--- the operation code behind the component ID `i`, and the set behind it
-unfoldable pub operation : Octets → (i : Span) (end : ℕ) → Answer Head
-operation s i end = do
-  d ← wanted s 0xD1 7 (i .end) end
-  check (eqb (sizeOf d) 2) 7 (i .end)
-  check (eqb (getD s (d .start) 0) 9) 7 (i .end)
+-- the element of a code of `size` octets: the code in it
+unfoldable pub codedAt : Octets → (octet number : ℕ) (family : Bool) (size at end : ℕ) → Answer Span
+codedAt s octet number family size at end = do
+  d ← wanted s octet number at end
+  check (eqb (sizeOf d) (familySize family + size)) number at
+  check (not family || eqb (getD s (d .start) 0) 9) number at
+  accepted (span (d .start + familySize family) (d .end))
+
+unfoldable pub codeAt : Octets → Coding → (at end : ℕ) → Answer Span
+codeAt s uncoded at end = accepted (span at at)
+codeAt s (coded octet number family size) at end = codedAt s octet number family size at end
+
+-- the code behind the component ID `i`, and the set behind it
+unfoldable pub behindId : Octets → (kind : ℕ) (i : Span) (end : ℕ) → Answer Head
+behindId s kind i end = do
+  d ← codeAt s (codingOf kind) (i .end) end
   f ← setAt s (d .end) end
-  accepted (record { kind = 0xE9; id = i; operation = d .start + 1; set = f })
+  accepted (record { kind = kind; id = i; code = d .start; set = f .start })
 
-unfoldable pub invoke : Octets → Span → Answer Head
-invoke s x = do
+unfoldable pub bodyAt : Octets → (kind : ℕ) → Span → Answer Head
+bodyAt s kind x = do
   i ← wanted s 0xCF 6 (x .start) (x .end)
-  check (leb (sizeOf i) 2) 6 (x .start)
-  operation s i (x .end)
-
-unfoldable pub result : Octets → Span → Answer Head
-result s x = do
-  i ← wanted s 0xCF 6 (x .start) (x .end)
-  check (eqb (sizeOf i) 1) 6 (x .start)
-  f ← setAt s (i .end) (x .end)
-  accepted (record { kind = 0xEA; id = i; operation = 0; set = f })
+  check (idFits kind (sizeOf i)) 6 (x .start)
+  behindId s kind i (x .end)
 
 -- the component that stands from `from` to the end of the octets
 unfoldable pub headFrom : Octets → (from : ℕ) → Answer Head
 headFrom s from = do
-  check (eqb (getD s from 0) 0xE9 || eqb (getD s from 0) 0xEA) 3 0
+  check (typed (getD s from 0)) 3 0
   x ← contents s from (from + 1) (length s)
   check (eqb (x .end) (length s)) 5 (x .end)
-  if (eqb (getD s from 0) 0xE9) (invoke s x) (result s x)
+  bodyAt s (getD s from 0) x
 
 -- the same, with 2 asked first
 unfoldable pub headAt : Octets → (from : ℕ) → Answer Head
@@ -129,10 +134,10 @@ pub record Layout : Type 0 where
   pub head : Head
   pub entries : List Entry
 
--- a head, and the parameters of its set
+-- a head, and the parameters from its set to the end of the octets
 unfoldable pub layoutBehind : Octets → Head → Answer Layout
 layoutBehind s h = do
-  es ← parameters 64 s (h .set .start) (h .set .end)
+  es ← parameters 64 s (h .set) (length s)
   accepted (record { head = h; entries = es })
 
 unfoldable pub layoutFrom : Octets → (from : ℕ) → Answer Layout
@@ -144,6 +149,9 @@ layoutAt s from = headAt s from >>= layoutBehind s
 abbrev pub layoutOf : Octets → Answer Layout
 layoutOf s = layoutAt s 0
 
--- the specifier of a layout: an INVOKE carries it, a RESULT has the one that is handed in
-unfoldable pub specifierIn : Octets → Layout → (given : ℕ) → ℕ
-specifierIn s l given = if (eqb (l .head .kind) 0xE9) (getD s (l .head .operation) 0) given
+-- ---- the code of a layout as it stands in the octets, and 11's place: that of an INVOKE's code, else 0
+unfoldable pub codeOctets : Octets → Head → Octets
+codeOctets s h = take (codeSize (codingOf (h .kind))) (drop (h .code) s)
+
+unfoldable pub operationPlace : Head → ℕ
+operationPlace h = if (eqb (h .kind) 0xE9) (h .code) 0

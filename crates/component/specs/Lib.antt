@@ -1,3 +1,4 @@
+pub mod Types
 pub mod Grammar
 pub mod Faults
 pub mod Table
@@ -7,7 +8,6 @@ pub mod Needed
 pub mod Part
 pub mod Layout
 pub mod Onward
-pub mod Outline
 pub mod Composing
 pub mod Told
 pub mod inner

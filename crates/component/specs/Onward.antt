@@ -19,8 +19,8 @@ headOn n h =
     record {
       kind = h .kind;
       id = spanOn n (h .id);
-      operation = if (eqb (h .kind) 0xE9) (n + h .operation) 0;
-      set = spanOn n (h .set);
+      code = n + h .code;
+      set = n + h .set;
     }
 
 abbrev pub layoutOn : ℕ → Layout → Layout

@@ -1,13 +1,14 @@
 -- Where the parts of a component stand, by its layout: the set's contents are the last of it, each parameter stands
--- where the one before it ends, and the specifier of an INVOKE is the octet before the set.
+-- where the one before it ends, and the code is the last before the set.
 use Prim.Native.Nat.{ℕ, _+_, _-_}
 use mathlib.Core.Path.{_≡_}
 use mathlib.Core.List.{List, [], _∷_, _++_}
 use lib.ListN.{length}
-use Rattle.element.specs.Octets.{Octets}
+use lib.Dec.{eqb}
+use Rattle.element.specs.Octets.{Octets, if}
 use Rattle.element.specs.Length.{LengthField}
 use Rattle.element.specs.Identifier.{IdentifierField}
-use Rattle.component.specs.Grammar.{Parameter, Parameters, Component, Laid, invoked, answered}
+use Rattle.component.specs.Grammar.{Parameter, Parameters, Component, Laid}
 use Rattle.component.specs.Table.{Entry}
 
 -- the entry of a parameter whose octets `e` stand at `place`: its contents are the last of them
@@ -48,10 +49,8 @@ entriesAt place (Parameters.more p {s = e} n w r) = entryAt place e p ∷ entrie
 
 -- the entries of a component, as they go to the table
 unfoldable pub standing : {c : Component} {s : Octets} → Laid c s → List Entry
-standing (invoked id specifier ps i o f set s a b w n r v x) = entriesAt (length s - length set) r
-standing (answered id ps i f set s a w r v x) = entriesAt (length s - length set) r
+standing {s = s} h = entriesAt (length s - length (h .contents)) (h .parameters)
 
--- 0 in a RESULT
-unfoldable pub specifierPlace : {c : Component} {s : Octets} → Laid c s → ℕ
-specifierPlace (invoked id specifier ps i o f set s a b w n r v x) = length s - (length f + 1)
-specifierPlace (answered id ps i f set s a w r v x) = 0
+-- where the operation stands: 0 but in an INVOKE
+unfoldable pub operationAt : {c : Component} {s : Octets} → Laid c s → ℕ
+operationAt {c} {s} h = if (eqb (c .kind) 0xE9) (length s - (length (h .set) + length (c .code))) 0

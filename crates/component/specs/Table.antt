@@ -3,10 +3,11 @@
 use Prim.Native.Nat.{ℕ, zero, suc, _+_, _*_, _≤_}
 use mathlib.Core.List.{List, [], _∷_, _++_, map}
 use lib.ListN.{length, getD, take, drop}
-use lib.Dec.{eqb}
-use Rattle.element.specs.Octets.{Octets, if}
+use Rattle.element.specs.Octets.{Octets}
 use Rattle.component.specs.declared.Id as D
-use Rattle.component.specs.Grammar.{Parameter, Component, Invoke, Result}
+use Rattle.component.specs.declared.Code as E
+use Rattle.component.specs.Types.{codingOf, codeSize}
+use Rattle.component.specs.Grammar.{Parameter, Component}
 
 -- ---- parameters
 pub record Entry : Type 0 where
@@ -69,12 +70,20 @@ unfoldable pub parametersFrom : (i count : ℕ) (table : List ℕ) (source : Oct
 parametersFrom i count t source = map (parameterOf source) (heldFrom i count t)
 
 -- ---- the outline
--- the octets of the component ID as a value: 0 where there is none
+-- the octets of the component ID as a value, and those of a code: 0 where there is none
 unfoldable pub idOf : Octets → D.Id
 idOf octets = record { count = length octets; first = getD octets 0 0; second = getD octets 1 0 }
 
 unfoldable pub idOctets : D.Id → Octets
 idOctets id = take (id .count) (id .first ∷ id .second ∷ [])
 
-unfoldable pub componentOf : (kind : ℕ) (id : D.Id) (specifier : ℕ) → List Parameter → Component
-componentOf kind id specifier ps = if (eqb kind 0xE9) (Invoke (idOctets id) specifier ps) (Result (idOctets id) ps)
+unfoldable pub codeOf : Octets → E.Code
+codeOf octets = record { first = getD octets 0 0; second = getD octets 1 0 }
+
+-- what stands of a code in the octets: the second is looked at in a REJECT alone, and none in a RESULT
+unfoldable pub writtenCode : (kind : ℕ) → E.Code → Octets
+writtenCode kind code = take (codeSize (codingOf kind)) (code .first ∷ code .second ∷ [])
+
+unfoldable pub componentOf : (kind : ℕ) (id : D.Id) (code : E.Code) → List Parameter → Component
+componentOf kind id code ps =
+    record { kind = kind; id = idOctets id; code = writtenCode kind code; parameters = ps }

@@ -12,7 +12,7 @@ use Rattle.component.specs.declared.Head.the-variants as HV
 use Rattle.component.specs.declared.Heading as G
 use Rattle.component.specs.declared.Measured as M
 use Rattle.component.specs.declared.Measured.the-variants as MV
-use Rattle.component.specs.Layout.{Span}
+use Rattle.component.specs.Layout.{Span, span, Head}
 use Rattle.component.specs.Table.{Entry}
 use Rattle.component.specs.Composing.{Sizes}
 
@@ -30,9 +30,13 @@ abbrev pub countIn : C.Count → Answer ℕ
 countIn (CV.Of n) = accepted n
 countIn (CV.Refused n d) = refused n d
 
-abbrev pub headingIn : H.Head → Answer G.Heading
-headingIn (HV.Found heading) = accepted heading
-headingIn (HV.Refused n d) = refused n d
+-- the octets of the component ID go from `id` to `behind`
+abbrev pub headSaid : G.Heading → Head
+headSaid h = record { kind = h .kind; id = span (h .id) (h .behind); code = h .code; set = h .set }
+
+abbrev pub headIn : H.Head → Answer Head
+headIn (HV.Found heading) = accepted (headSaid heading)
+headIn (HV.Refused n d) = refused n d
 
 abbrev pub measureIn : M.Measured → Answer Sizes
 measureIn (MV.Octets whole body set) = accepted (record { whole = whole; body = body; set = set })

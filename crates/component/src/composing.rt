@@ -1,8 +1,11 @@
 // The octets of a component, counted and composed.
+use super::Code;
 use super::Count;
 use super::Id;
 use super::Measured;
 use super::WIDTH;
+use super::types::id_fits;
+use super::types::is_typed;
 use element::Field;
 ghost use mathlib.Core.Path.{_≡_};
 ghost use mathlib.Core.List.{[], _∷_};
@@ -11,21 +14,20 @@ ghost use lib.ListN.{length, take, drop};
 ghost use Rattle.element.specs.Length.{shortest};
 ghost use Rattle.element.specs.Identifier.{identifier, identifierSize};
 ghost use Rattle.element.specs.Encoded.{octetsIn};
+ghost use Rattle.component.specs.Types.{codingOf};
 ghost use Rattle.component.specs.Composed.{element, setOf};
-ghost use Rattle.component.specs.Needed.{elementSize, bodySize};
+ghost use Rattle.component.specs.Needed.{elementSize, codingSize, bodySize};
 ghost use Rattle.component.specs.Composing.{
-  idFits,
   entryStands,
   entriesFrom,
   measured,
   composing,
-  written,
-  outputAfter,
 };
-ghost use Rattle.component.specs.Table.{width, held, idOctets, parametersFrom};
+ghost use Rattle.element.specs.Output.{written, outputAfter};
+ghost use Rattle.component.specs.Table.{width, held, parametersFrom};
 ghost use Rattle.component.specs.inner.Emitting.{
   Put,
-  operationOctets,
+  codedOctets,
   headOctets,
   AllStand,
   sized,
@@ -38,16 +40,14 @@ ghost use Rattle.component.specs.Told.{countIn, measureIn};
 pub fn measure(kind: u8, id: Id, count: usize, table: &[u16], source: &[u8]) -> Measured
     ensures { λ r. ⌜ measureIn r ≡ measured kind id count (now (table .entry)) (now (source .entry)) ⌝ }
 {
-    if kind != 0xE9 {
-        if kind != 0xEA {
-            return Measured::Refused {
-                number: 3,
-                detail: 0,
-            };
-        }
+    if !is_typed(kind) {
+        return Measured::Refused {
+            number: 3,
+            detail: 0,
+        };
     }
     let octets = id.count;
-    if id_fits(kind, octets) {
+    if id_fits(kind, octets as usize) {
         if 64 < count {
             return Measured::Refused {
                 number: 10,
@@ -83,16 +83,6 @@ fn wide(x: u16) -> usize
     x as usize
 }
 
-// Whether a component of this kind can have an ID of so many octets.
-fn id_fits(kind: u8, count: u8) -> bool
-    ensures { λ r. ⌜ r ≡ idFits kind count ⌝ }
-{
-    if kind == 0xE9 {
-        return count <= 2;
-    }
-    count == 1
-}
-
 // An element: its identifier, its length field and its contents.
 fn element_size(head: usize, body: usize) -> usize
     requires { ⌜ (head ≤ 3) × (body ≤ 5000000) ⌝ }
@@ -101,16 +91,28 @@ fn element_size(head: usize, body: usize) -> usize
     head + element::length_size(body) + body
 }
 
-// The contents of E9 or EA.
+// The element of the code; a RESULT has none.
+fn coding_size(kind: u8) -> usize
+    ensures { λ r. ⌜ (r ≡ codingSize (codingOf kind)) × (r ≤ 4) ⌝ }
+{
+    if kind == 0xE9 {
+        return 4;
+    }
+    if kind == 0xEB {
+        return 3;
+    }
+    if kind == 0xEC {
+        return 4;
+    }
+    0
+}
+
+// The contents of the type's element.
 fn body_size(kind: u8, octets: u8, set: usize) -> usize
     requires { ⌜ (octets ≤ 2) × (set ≤ 4194688) ⌝ }
     ensures { λ r. ⌜ (r ≡ bodySize kind octets set) × (r ≤ 4200000) ⌝ }
 {
-    let elements = 2 + (octets as usize) + element_size(1, set);
-    if kind == 0xE9 {
-        return elements + 4;
-    }
-    elements
+    2 + (octets as usize) + coding_size(kind) + element_size(1, set)
 }
 
 // The whole component, where its parameters take `set` octets: 15 where it is longer than 4,096.
@@ -288,50 +290,59 @@ fn copy_octets(source: &[u8], start: usize, size: usize, out: &mut [u8], at: usi
     copy_blocks(source, start, size, out, at)
 }
 
-// CF, and the octets of the component ID.
-fn put_id(out: &mut [u8], at: usize, id: Id) -> usize
-    requires { ⌜ (id .count ≤ 2) × (at + length (element (0xCF ∷ []) (idOctets id)) ≤ length (now out)) ⌝ }
-    ensures { λ r. ⌜ Put (element (0xCF ∷ []) (idOctets id)) at (now (out .entry)) r (now (out .exit)) ⌝ }
+// An element of at most two octets of contents.
+fn put_few(out: &mut [u8], at: usize, octet: u8, count: u8, first: u8, second: u8) -> usize
+    requires { ⌜ (count ≤ 2)
+        × (at + length (element (octet ∷ []) (take count (first ∷ second ∷ []))) ≤ length (now out)) ⌝ }
+    ensures { λ r. ⌜ Put (element (octet ∷ []) (take count (first ∷ second ∷ []))) at (now (out .entry)) r
+        (now (out .exit)) ⌝ }
 {
-    let count = id.count;
-    out[at] = 0xCF;
+    out[at] = octet;
     out[at + 1] = count;
     if count == 0 {
         return at + 2;
     }
-    out[at + 2] = id.first;
+    out[at + 2] = first;
     if count == 1 {
         return at + 3;
     }
-    out[at + 3] = id.second;
+    out[at + 3] = second;
     at + 4
 }
 
-// D1 and the operation code of an INVOKE; a RESULT has none.
-fn put_operation(out: &mut [u8], at: usize, kind: u8, specifier: u8) -> usize
-    requires { ⌜ at + length (operationOctets kind specifier) ≤ length (now out) ⌝ }
-    ensures { λ r. ⌜ Put (operationOctets kind specifier) at (now (out .entry)) r (now (out .exit)) ⌝ }
+// The element of the code: behind the family in an INVOKE; a RESULT has none.
+fn put_code(out: &mut [u8], at: usize, kind: u8, code: Code) -> usize
+    requires { ⌜ at + length (codedOctets kind code) ≤ length (now out) ⌝ }
+    ensures { λ r. ⌜ Put (codedOctets kind code) at (now (out .entry)) r (now (out .exit)) ⌝ }
 {
+    let first = code.first;
+    let second = code.second;
     if kind == 0xE9 {
-        out[at] = 0xD1;
-        out[at + 1] = 2;
-        out[at + 2] = 9;
-        out[at + 3] = specifier;
-        return at + 4;
+        return put_few(out, at, 0xD1, 2, 9, first);
+    }
+    if kind == 0xEB {
+        return put_few(out, at, 0xD4, 1, first, 0);
+    }
+    if kind == 0xEC {
+        return put_few(out, at, 0xD5, 2, first, second);
     }
     at
 }
 
-// All that stands before the parameters: the contents of E9 or EA take `body` octets, and the parameters `set`.
-fn put_head(kind: u8, id: Id, specifier: u8, body: usize, set: usize, out: &mut [u8]) -> usize
+// All that stands before the parameters: the contents of the type's element take `body` octets, and the parameters
+// `set`.
+fn put_head(kind: u8, id: Id, code: Code, body: usize, set: usize, out: &mut [u8]) -> usize
     requires { ⌜ (id .count ≤ 2) × (body < 65536) × (set < 65536)
-        × (length (headOctets kind id specifier body set) ≤ length (now out)) ⌝ }
-    ensures { λ r. ⌜ Put (headOctets kind id specifier body set) 0 (now (out .entry)) r (now (out .exit)) ⌝ }
+        × (length (headOctets kind id code body set) ≤ length (now out)) ⌝ }
+    ensures { λ r. ⌜ Put (headOctets kind id code body set) 0 (now (out .entry)) r (now (out .exit)) ⌝ }
 {
     out[0] = kind;
     let component = put_length(out, 1, body);
-    let operation = put_id(out, component, id);
-    let parameters = put_operation(out, operation, kind, specifier);
+    let count = id.count;
+    let first = id.first;
+    let second = id.second;
+    let encoded = put_few(out, component, 0xCF, count, first, second);
+    let parameters = put_code(out, encoded, kind, code);
     out[parameters] = 0xF2;
     put_length(out, parameters + 1, set)
 }
@@ -384,17 +395,17 @@ fn put_parameters(count: usize, table: &[u16], source: &[u8], out: &mut [u8], at
 pub fn compose(
     kind: u8,
     id: Id,
-    specifier: u8,
+    code: Code,
     count: usize,
     table: &[u16],
     source: &[u8],
     out: &mut [u8],
 ) -> Count
     ensures { λ r. ⌜ (countIn r ≡
-        written (composing kind id specifier count (now (table .entry)) (now (source .entry))
+        written (composing kind id code count (now (table .entry)) (now (source .entry))
         (length (now (out .entry)))))
         × (now (out .exit) ≡ outputAfter (now (out .entry))
-        (composing kind id specifier count (now (table .entry)) (now (source .entry)) (length (now (out .entry))))) ⌝ }
+        (composing kind id code count (now (table .entry)) (now (source .entry)) (length (now (out .entry))))) ⌝ }
 {
     match measure(kind, id, count, table, source) {
         Measured::Octets { whole, body, set } => {
@@ -404,7 +415,7 @@ pub fn compose(
                     detail: whole as u32,
                 };
             }
-            let parameters = put_head(kind, id, specifier, body, set, out);
+            let parameters = put_head(kind, id, code, body, set, out);
             return Count::Of(put_parameters(count, table, source, out, parameters));
         }
         Measured::Refused { number, detail } => {

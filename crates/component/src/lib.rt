@@ -1,6 +1,7 @@
 // One component: the steps of its layout, a part of it handed back, and its octets composed.
 mod composing;
 mod reading;
+mod types;
 
 pub use composing::compose;
 pub use composing::measure;
@@ -28,13 +29,35 @@ pub enum Span {
     Refused { number: u8, detail: u32 },
 }
 
-// All but the parameters: the specifier and its place are 0 in a RESULT; the parameters start at `set`.
+// The code of a component, as it is told and handed in: the specifier of an INVOKE or of a RESULT's operation, the
+// error octet, or the two problem octets. The second is 0, and not looked at, but in a REJECT.
+pub struct Code {
+    pub first: u8,
+    pub second: u8,
+}
+
+// All but the parameters: the octets of the component ID go from `id` to `behind`, the code starts at `code`, and the
+// parameters at `set`. A RESULT has no code: the set stands there.
 pub struct Heading {
     pub kind: u8,
-    pub id: Id,
-    pub operation: usize,
-    pub specifier: u8,
+    pub id: usize,
+    pub behind: usize,
+    pub code: usize,
     pub set: usize,
+}
+
+// What stands behind the length field of the type's element.
+enum Body {
+    Found {
+        id: usize,
+        behind: usize,
+        code: usize,
+        set: usize,
+    },
+    Refused {
+        number: u8,
+        detail: u32,
+    },
 }
 
 pub enum Head {
@@ -60,7 +83,7 @@ pub enum Count {
     Refused { number: u8, detail: u32 },
 }
 
-// What a component takes: its octets, those of the contents of E9 or EA, and those of its parameters.
+// What a component takes: its octets, those of the contents of its type's element, and those of its parameters.
 pub enum Measured {
     Octets {
         whole: usize,

@@ -1,30 +1,32 @@
 // The layout of a component, from left to right, and a part of it handed back.
+use super::Body;
 use super::Head;
 use super::Heading;
-use super::Id;
 use super::Parameter;
 use super::Span;
+use super::types::id_fits;
 use element::Identifier;
 use element::Length;
 ghost use mathlib.Core.Path.{_≡_};
 ghost use Prim.Native.Nat.{_+_, _≤_};
 ghost use lib.ListN.{length};
-ghost use Rattle.element.specs.Octets.{between};
+ghost use Rattle.component.specs.Types.{Typed, codingOf};
 ghost use Rattle.component.specs.Layout.{
   span,
   contents,
   wanted,
   setAt,
-  operation,
-  invoke,
-  result,
+  codedAt,
+  codeAt,
+  behindId,
+  bodyAt,
+  headAt,
   parameterAt,
   parameterFrom,
 };
-ghost use Rattle.component.specs.Table.{idOf};
-ghost use Rattle.component.specs.Outline.{headed, headingsAt};
 ghost use Rattle.component.specs.Part.{fits, partOf};
-ghost use Rattle.component.specs.Told.{spanIn, entryIn, headingIn};
+ghost use Rattle.component.specs.Told.{spanIn, entryIn, headIn};
+ghost use Rattle.component.specs.inner.Bodied.{bodyIn};
 
 // ---- one element
 
@@ -54,11 +56,21 @@ fn contents_at(s: &[u8], at: usize, from: usize, end: usize) -> Span
     }
 }
 
-// The element of one identifier octet that is wanted at `at`: another octet there is refused by `number`.
+// The element of one identifier octet that is wanted at `at`: another octet there is refused by `number`. Where two
+// octets are left, both of its tests can be spared.
 fn wanted_at(s: &[u8], octet: u8, number: u8, at: usize, end: usize) -> Span
     requires { ⌜ (at ≤ end) × (end ≤ length (now s)) × (length (now s) ≤ 4096) ⌝ }
     ensures { λ r. ⌜ spanIn r ≡ wanted (now (s .entry)) octet number at end ⌝ }
 {
+    if at + 1 < end {
+        if s[at] == octet {
+            return contents_at(s, at, at + 1, end);
+        }
+        return Span::Refused {
+            number,
+            detail: at as u32,
+        };
+    }
     if end <= at {
         return Span::Refused {
             number: 5,
@@ -66,7 +78,10 @@ fn wanted_at(s: &[u8], octet: u8, number: u8, at: usize, end: usize) -> Span
         };
     }
     if s[at] == octet {
-        return contents_at(s, at, at + 1, end);
+        return Span::Refused {
+            number: 4,
+            detail: (at + 1) as u32,
+        };
     }
     Span::Refused {
         number,
@@ -101,123 +116,115 @@ fn set_at(s: &[u8], at: usize, end: usize) -> Span
 
 // ---- all but the parameters
 
-// The octets of a component ID that was found: at most two.
-fn id_at(s: &[u8], start: usize, end: usize) -> Id
-    requires { ⌜ (start ≤ end) × (end ≤ start + 2) × (end ≤ length (now s)) × (length (now s) ≤ 4096) ⌝ }
-    ensures { λ r. ⌜ r ≡ idOf (between start end (now (s .entry))) ⌝ }
+// The element of a code of `size` octets, with the family before it or without: the code in it.
+fn coded_at(
+    s: &[u8],
+    octet: u8,
+    number: u8,
+    family: bool,
+    size: usize,
+    at: usize,
+    end: usize,
+) -> Span
+    requires { ⌜ (size ≤ 2) × (at ≤ end) × (end ≤ length (now s)) × (length (now s) ≤ 4096) ⌝ }
+    ensures { λ r. ⌜ spanIn r ≡ codedAt (now (s .entry)) octet number family size at end ⌝ }
 {
-    if end == start {
-        return Id {
-            count: 0,
-            first: 0,
-            second: 0,
-        };
-    }
-    if end == start + 1 {
-        return Id {
-            count: 1,
-            first: s[start],
-            second: 0,
-        };
-    }
-    Id {
-        count: 2,
-        first: s[start],
-        second: s[start + 1],
-    }
-}
-
-fn invoke_at(s: &[u8], start: usize, end: usize) -> Head
-    requires { ⌜ (start ≤ end) × (end ≤ length (now s)) × (length (now s) ≤ 4096) ⌝ }
-    ensures { λ r. ⌜ headingIn r ≡ headed (now (s .entry)) (invoke (now (s .entry)) (span start end)) ⌝ }
-{
-    match wanted_at(s, 0xCF, 6, start, end) {
+    let before = if family { 1 } else { 0 };
+    match wanted_at(s, octet, number, at, end) {
         Span::Found {
-            start: id_start,
-            end: id_end,
+            start,
+            end: code_end,
         } => {
-            if 2 < id_end - id_start {
-                return Head::Refused {
-                    number: 6,
-                    detail: start as u32,
+            if code_end - start != before + size {
+                return Span::Refused {
+                    number,
+                    detail: at as u32,
                 };
             }
-            operation_at(s, id_start, id_end, end)
+            if family {
+                if s[start] != 9 {
+                    return Span::Refused {
+                        number,
+                        detail: at as u32,
+                    };
+                }
+            }
+            Span::Found {
+                start: start + before,
+                end: code_end,
+            }
         }
-        Span::Refused { number, detail } => Head::Refused { number, detail },
+        Span::Refused { number, detail } => Span::Refused { number, detail },
     }
 }
 
-// The operation code behind a component ID, and the set behind it.
-fn operation_at(s: &[u8], from: usize, to: usize, end: usize) -> Head
-    requires { ⌜ (from ≤ to) × (to ≤ from + 2) × (to ≤ end) × (end ≤ length (now s)) × (length (now s) ≤ 4096) ⌝ }
-    ensures { λ r. ⌜ headingIn r ≡ headed (now (s .entry)) (operation (now (s .entry)) (span from to) end) ⌝ }
+// The element between the component ID and the set, as the type has it; a RESULT has none.
+fn code_at(s: &[u8], kind: u8, at: usize, end: usize) -> Span
+    requires { ⌜ Typed kind × (at ≤ end) × (end ≤ length (now s)) × (length (now s) ≤ 4096) ⌝ }
+    ensures { λ r. ⌜ spanIn r ≡ codeAt (now (s .entry)) (codingOf kind) at end ⌝ }
 {
-    match wanted_at(s, 0xD1, 7, to, end) {
+    if kind == 0xEA {
+        return Span::Found { start: at, end: at };
+    }
+    if kind < 0xEA {
+        return coded_at(s, 0xD1, 7, true, 1, at, end);
+    }
+    if kind < 0xEC {
+        return coded_at(s, 0xD4, 21, false, 1, at, end);
+    }
+    coded_at(s, 0xD5, 21, false, 2, at, end)
+}
+
+// The code behind a component ID, and the set behind it.
+fn behind_id(s: &[u8], kind: u8, id: usize, behind: usize, end: usize) -> Body
+    requires { ⌜ Typed kind × (behind ≤ end) × (end ≤ length (now s)) × (length (now s) ≤ 4096) ⌝ }
+    ensures { λ r. ⌜ bodyIn kind r ≡ behindId (now (s .entry)) kind (span id behind) end ⌝ }
+{
+    match code_at(s, kind, behind, end) {
         Span::Found {
             start: code,
             end: code_end,
-        } => {
-            if code_end - code != 2 {
-                return Head::Refused {
-                    number: 7,
-                    detail: to as u32,
-                };
-            }
-            if s[code] != 9 {
-                return Head::Refused {
-                    number: 7,
-                    detail: to as u32,
-                };
-            }
-            match set_at(s, code_end, end) {
-                Span::Found { start: set, end: _ } => Head::Found(Heading {
-                    kind: 0xE9,
-                    id: id_at(s, from, to),
-                    operation: code + 1,
-                    specifier: s[code + 1],
-                    set,
-                }),
-                Span::Refused { number, detail } => Head::Refused { number, detail },
-            }
-        }
-        Span::Refused { number, detail } => Head::Refused { number, detail },
+        } => match set_at(s, code_end, end) {
+            Span::Found { start: set, end: _ } => Body::Found {
+                id,
+                behind,
+                code,
+                set,
+            },
+            Span::Refused { number, detail } => Body::Refused { number, detail },
+        },
+        Span::Refused { number, detail } => Body::Refused { number, detail },
     }
 }
 
-fn result_at(s: &[u8], start: usize, end: usize) -> Head
-    requires { ⌜ (start ≤ end) × (end ≤ length (now s)) × (length (now s) ≤ 4096) ⌝ }
-    ensures { λ r. ⌜ headingIn r ≡ headed (now (s .entry)) (result (now (s .entry)) (span start end)) ⌝ }
+// The contents of the type's element, which go from `start` to the end of the octets.
+fn body_at(s: &[u8], kind: u8, start: usize) -> Body
+    requires { ⌜ Typed kind × (start ≤ length (now s)) × (length (now s) ≤ 4096) ⌝ }
+    ensures { λ r. ⌜ bodyIn kind r ≡
+        bodyAt (now (s .entry)) kind (span start (length (now (s .entry)))) ⌝ }
 {
+    let end = s.len();
     match wanted_at(s, 0xCF, 6, start, end) {
         Span::Found {
-            start: id_start,
-            end: id_end,
+            start: id,
+            end: behind,
         } => {
-            if id_end - id_start != 1 {
-                return Head::Refused {
-                    number: 6,
-                    detail: start as u32,
-                };
+            if id_fits(kind, behind - id) {
+                return behind_id(s, kind, id, behind, end);
             }
-            match set_at(s, id_end, end) {
-                Span::Found { start: set, end: _ } => Head::Found(Heading {
-                    kind: 0xEA,
-                    id: id_at(s, id_start, id_end),
-                    operation: 0,
-                    specifier: 0,
-                    set,
-                }),
-                Span::Refused { number, detail } => Head::Refused { number, detail },
+            Body::Refused {
+                number: 6,
+                detail: start as u32,
             }
         }
-        Span::Refused { number, detail } => Head::Refused { number, detail },
+        Span::Refused { number, detail } => Body::Refused { number, detail },
     }
 }
 
-// The component that stands from `from` to the end of the octets.
+// The component that stands from `from` to the end of the octets. The type is tested here, and not by a call: so what
+// follows stays a function of its own, and the loop over the parameters keeps its registers.
 pub fn head_from(octets: &[u8], from: usize) -> Head
-    ensures { λ r. ⌜ headingIn r ≡ headingsAt (now (octets .entry)) from ⌝ }
+    ensures { λ r. ⌜ headIn r ≡ headAt (now (octets .entry)) from ⌝ }
 {
     if octets.len() <= from {
         return Head::Refused {
@@ -232,13 +239,17 @@ pub fn head_from(octets: &[u8], from: usize) -> Head
         };
     }
     let kind = octets[from];
-    if kind != 0xE9 {
-        if kind != 0xEA {
-            return Head::Refused {
-                number: 3,
-                detail: 0,
-            };
-        }
+    if kind < 0xE9 {
+        return Head::Refused {
+            number: 3,
+            detail: 0,
+        };
+    }
+    if 0xEC < kind {
+        return Head::Refused {
+            number: 3,
+            detail: 0,
+        };
     }
     match contents_at(octets, from, from + 1, octets.len()) {
         Span::Found { start, end } => {
@@ -248,10 +259,21 @@ pub fn head_from(octets: &[u8], from: usize) -> Head
                     detail: end as u32,
                 };
             }
-            if kind == 0xE9 {
-                return invoke_at(octets, start, end);
+            match body_at(octets, kind, start) {
+                Body::Found {
+                    id,
+                    behind,
+                    code,
+                    set,
+                } => Head::Found(Heading {
+                    kind,
+                    id,
+                    behind,
+                    code,
+                    set,
+                }),
+                Body::Refused { number, detail } => Head::Refused { number, detail },
             }
-            result_at(octets, start, end)
         }
         Span::Refused { number, detail } => Head::Refused { number, detail },
     }

@@ -5,3 +5,4 @@ pub mod Identifier
 pub mod Field
 pub mod Decoded
 pub mod Encoded
+pub mod Output

@@ -139,19 +139,23 @@ pub fn read_identifier(rest: &[u8]) -> Identifier
     if rest.len() <= 0 {
         return Identifier::IllFormed;
     }
-    let first = double(rest[0]);
-    let form = first / 32 % 2;
-    if first / 64 == 2 {
-        if first % 32 < 31 {
-            return Identifier::Is {
-                number: first % 32,
-                form,
-                size: 1,
-            };
-        }
-        return scan(rest, form);
+    let lead = double(rest[0]);
+    if lead < 0x80 {
+        return Identifier::IllFormed;
     }
-    Identifier::IllFormed
+    if 0xBF < lead {
+        return Identifier::IllFormed;
+    }
+    let form = lead / 32 % 2;
+    let number = lead % 32;
+    if number < 31 {
+        return Identifier::Is {
+            number,
+            form,
+            size: 1,
+        };
+    }
+    scan(rest, form)
 }
 
 // The number that follows an identifier octet whose low five bits are all ones: seven bits an octet, high first, the

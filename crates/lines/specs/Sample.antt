@@ -3,14 +3,16 @@ use mathlib.Core.Path.{_≡_, refl}
 use mathlib.Core.List.{[], _∷_, _++_}
 use Rattle.element.specs.Octets.{Octets}
 use Rattle.element.specs.Decoded.{lengthAt, within, numbered, identifierAt}
-use Rattle.component.specs.Layout.{spanOf, contents, wanted, setAt, operation, invoke, result, headFrom, headAt}
-use Rattle.component.specs.Layout.{parameter, parameterAt, parameters, layoutBehind, layoutAt, specifierIn}
+use Rattle.component.specs.Layout.{spanOf, contents, wanted, setAt, codedAt, codeAt, behindId, bodyAt, headFrom, headAt}
+use Rattle.component.specs.Layout.{parameter, parameterAt, parameters, layoutBehind, layoutAt, codeOctets, operationPlace}
+use Rattle.component.specs.Types.{formatOf, typed, idFits}
 use Rattle.operation.specs.Row.{key, numberOf, onLine, named, repeats}
 use Rattle.operation.specs.Judge.{occurs, lastMark, once, present, single, judge, countNamed}
 use Rattle.operation.specs.Rows.{operations}
-use Rattle.operation.specs.Finding.{find, rowOf}
+use Rattle.operation.specs.Finding.{find, rowed, rowOf}
 use Rattle.operation.specs.Items.{itemOf}
-use Rattle.operation.specs.Reading.{countOther, shownOf, readingAt}
+use Rattle.operation.specs.Reading.{operationIn, countOther, shownOf, readingAt}
+use Rattle.operation.specs.Codes.{operationOf, toldCode}
 use Rattle.operation.specs.Told.{told}
 use Rattle.lines.specs.Header.{fieldAt}
 use Rattle.lines.specs.Decimal.{digits, decimal}
@@ -31,9 +33,10 @@ lines =
     ∷ 0x32 ∷ 0x20 ∷ 0x35 ∷ 0x20 ∷ 0x32 ∷ 0x20 ∷ 0x30 ∷ 0x20 ∷ 0x30 ∷ 0x0A ∷ []
 
 pub sample : printed input ≡ headerLine ++ lines
-unfolding lengthAt within numbered identifierAt spanOf contents wanted setAt operation invoke result headFrom headAt
-    parameter parameterAt parameters layoutBehind layoutAt specifierIn key numberOf onLine named repeats occurs lastMark
-    once present single judge countNamed operations find rowOf itemOf countOther shownOf readingAt told fieldAt digits
+unfolding lengthAt within numbered identifierAt spanOf contents wanted setAt formatOf typed idFits codedAt codeAt
+    behindId bodyAt headFrom headAt parameter parameterAt parameters layoutBehind layoutAt codeOctets operationPlace key
+    numberOf onLine named repeats occurs lastMark once present single judge countNamed operations find rowed rowOf itemOf
+    operationOf toldCode operationIn countOther shownOf readingAt told fieldAt digits
     decimal cell row lineOf after lineFor listing fills whole inputFrom inputOf printed
 sample = refl
 

@@ -136,7 +136,7 @@ pub fn write_line(item: u64, reading: Reading, out: &mut [u8], at: usize) -> Lin
         Reading::Accepted {
             kind: _,
             id: _,
-            specifier: _,
+            code: _,
             all: _,
             named,
             other,

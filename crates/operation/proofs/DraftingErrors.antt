@@ -5,10 +5,12 @@ use mathlib.Core.Path.{_≡_, refl}
 use mathlib.Core.List.{List}
 use native.Mathlib.Omega.{arith}
 use Rattle.element.specs.Octets.{Octets}
-use Rattle.component.specs.Layout.{Layout, specifierIn}
+use Rattle.component.specs.Layout.{Head}
 use Rattle.operation.specs.Row.{Row, Item, key}
 use Rattle.operation.specs.Judge.{judge}
 use Rattle.operation.specs.Items.{itemOf}
+use Rattle.operation.specs.Codes.{operationOf}
+use Rattle.operation.specs.Reading.{operationIn}
 use Rattle.operation.proofs.Newcomers.{Grown}
 use Rattle.operation.proofs.Untouched.{untouched}
 
@@ -20,9 +22,9 @@ unfolding itemOf
 no-octets-occur number form place start size start′ size′ = refl
 
 -- taking a result's operation from its octets, or from the last INVOKE seen: a RESULT has the specifier that is handed in
-pub result-asks-the-caller : (s : Octets) (l : Layout) (given : ℕ) → l .head .kind ≡ 0xEA → specifierIn s l given ≡ given
-unfolding specifierIn
-result-asks-the-caller s l given e = rw e
+pub result-asks-the-caller : (s : Octets) (h : Head) (given : ℕ) → h .kind ≡ 0xEA → operationIn s h given ≡ given
+unfolding operationIn operationOf
+result-asks-the-caller s h given e = rw e
 
 -- comparing only low five bits: two identifiers with one key have one number and one form
 pub keys-tell-apart : (number form number′ form′ : ℕ) → form ≤ 1 → form′ ≤ 1 → key number form ≡ key number′ form′ → (number ≡ number′) × (form ≡ form′)

@@ -1,27 +1,37 @@
 -- What the paper's list shuts out: none of these satisfies the demands, since each differs from ours on one input.
-use Prim.Native.Nat.{ℕ, _+_, _<_}
+use Prim.Native.Nat.{ℕ, _+_, _<_, _≤_}
 use mathlib.Core.Path.{_≡_, refl, sym, ap, _∙_}
+use mathlib.Core.Bool.{true≢false}
 use mathlib.Core.List.{List, [], _∷_, map}
+use mathlib.Core.Logic.{inr}
 use lib.ListN.{length, getD, drop, replicate}
+use borrow.Author.Tests.{ne-eqb}
 use native.Mathlib.Omega.{arith}
 use Rattle.element.specs.Octets.{Octets, AreOctets}
 use Rattle.element.specs.Answer.{Answer, accepted, refused}
 use Rattle.element.specs.Length.{shortest, fieldSize}
 use Rattle.element.specs.Identifier.{identifier, identifierSize}
 use Rattle.element.proofs.Reading.{small}
-use Rattle.component.specs.Table.{Entry, width, tableSize, held, heldFrom, parameterOf, idOctets, componentOf}
+use Rattle.component.specs.Table.{Entry, width, tableSize, tableWith, held, heldFrom, parameterOf, idOctets, writtenCode, componentOf}
+use Rattle.component.specs.Grammar.{Component}
+use Rattle.component.specs.Faults.{LaidOut}
+use Rattle.component.specs.Standing.{standing}
 use Rattle.component.specs.Part.{fits}
-use Rattle.component.specs.Composed.{element, setOf, composed}
-use Rattle.component.specs.Composing.{entryStands, takenFrom, entriesFrom, idFits, entriesOf, octetsOf, written, outputAfter}
-use Rattle.component.specs.Needed.{elementSize, setSize, bodySize, octetsNeeded}
-use Rattle.operation.specs.Row.{key, numberOf, onLine, named, repeats}
+use Rattle.component.specs.Composed.{element, setOf, codeElement, composed}
+use Rattle.component.specs.Composing.{entryStands, takenFrom, entriesFrom, entriesOf, octetsOf}
+use Rattle.element.specs.Output.{written, outputAfter}
+use Rattle.component.specs.Types.{formatOf, typed, idFits}
+use Rattle.component.specs.Needed.{elementSize, setSize, codingSize, bodySize, octetsNeeded}
+use Rattle.operation.specs.Row.{key, numberOf, onLine, named, named as names, repeats}
 use Rattle.operation.specs.Judge.{occurs, lastMark, once, present, single, judge, countNamed}
 use Rattle.operation.specs.Rows.{operations}
-use Rattle.operation.specs.Finding.{find, rowOf}
+use Rattle.operation.specs.Finding.{find, rowed, rowOf}
 use Rattle.operation.specs.Items.{itemsOf}
+use Rattle.operation.specs.Book.{none}
+use Rattle.operation.specs.Codes.{toldCode}
 use Rattle.operation.specs.Writing.{writing}
 use Rattle.operation.specs.Caller.{Read, read, Told, Reader, Order, Writer}
-use Rattle.operation.specs.Demands.{ReaderRefuses, Demands}
+use Rattle.operation.specs.Demands.{keyOf, Rowed, unasked, tally, ReaderRefuses, tells, Demands}
 use Rattle.operation.specs.Model.{reader, writer, OnlyOne}
 use Rattle.operation.specs.Charts.{zeros, expected, starred, living}
 use Rattle.operation.proofs.Charts.{charts, rows-live}
@@ -52,6 +62,16 @@ two = 0xEA ∷ 0x09 ∷ 0xCF ∷ 0x01 ∷ 0x05 ∷ 0xF2 ∷ 0x04 ∷ 0x85 ∷ 0x
 shown-two : reader two 4 zeros ≡ at 3 (map expected living)
 shown-two = ap (at 3) rows-live
 
+-- a REJECT with the problem octets 02 03, one with two ID octets, and an ERROR that ends where its code is wanted
+abbrev reject : Octets
+reject = 0xEC ∷ 0x0A ∷ 0xCF ∷ 0x00 ∷ 0xD5 ∷ 0x02 ∷ 0x02 ∷ 0x03 ∷ 0xF2 ∷ 0x02 ∷ 0x89 ∷ 0x00 ∷ []
+
+abbrev reject-of-two : Octets
+reject-of-two = 0xEC ∷ 0x0A ∷ 0xCF ∷ 0x02 ∷ 0x05 ∷ 0x06 ∷ 0xD5 ∷ 0x02 ∷ 0x01 ∷ 0x01 ∷ 0xF2 ∷ 0x00 ∷ []
+
+abbrev error-ended : Octets
+error-ended = 0xEB ∷ 0x03 ∷ 0xCF ∷ 0x01 ∷ 0x05 ∷ []
+
 chart-octets : AreOctets chart
 chart-octets = small chart (omega arith)
 
@@ -59,10 +79,10 @@ two-octets : AreOctets two
 two-octets = small two (omega arith)
 
 abbrev order : Order
-order = record { kind = 0xEA; id = record { count = 1; first = 5; second = 0 }; specifier = 4; count = 1; table = 5 ∷ 0 ∷ 0 ∷ 0 ∷ 0 ∷ []; source = [] }
+order = record { kind = 0xEA; id = record { count = 1; first = 5; second = 0 }; code = record { first = 4; second = 0 }; count = 1; table = 5 ∷ 0 ∷ 0 ∷ 0 ∷ 0 ∷ []; source = [] }
 
 composed-so : writer order (replicate 9 0) ≡ record { answer = accepted 9; output = chart }
-unfolding shortest fieldSize identifier identifierSize key numberOf onLine named repeats occurs lastMark once present single judge countNamed operations find rowOf element setOf composed fits heldFrom parameterOf entryStands takenFrom elementSize setSize bodySize octetsNeeded idFits idOctets componentOf entriesOf octetsOf written outputAfter itemsOf writing
+unfolding shortest fieldSize identifier identifierSize key numberOf onLine named repeats occurs lastMark once present single judge countNamed operations find rowed rowOf formatOf typed element setOf codeElement composed fits heldFrom parameterOf entryStands takenFrom elementSize setSize codingSize bodySize octetsNeeded idFits idOctets writtenCode componentOf entriesOf octetsOf written outputAfter itemsOf writing
 composed-so = refl
 
 -- an entry but for its place
@@ -147,12 +167,52 @@ module _ (r : Reader) (w : Writer) (d : Demands r w) where
 
   pub not-by-the-place : (o : Order) (t : List ℕ) (out : Octets) → length t ≡ length (o .table) →
       map unplaced (heldFrom 0 (o .count) t) ≡ map unplaced (heldFrom 0 (o .count) (o .table)) →
-      w (record { kind = o .kind; id = o .id; specifier = o .specifier; count = o .count; table = t; source = o .source }) out ≡ w o out
+      w (record { kind = o .kind; id = o .id; code = o .code; count = o .count; table = t; source = o .source }) out ≡ w o out
   unfolding OnlyOne writing entriesOf
   not-by-the-place o t out l e =
       let f : entriesFrom 0 (o .count) t (o .source) ≡ entriesFrom 0 (o .count) (o .table) (o .source) =
       sym (place-unread 0 (o .source) _) ∙ rw e (place-unread 0 (o .source) _) in
       only-one r w d .1 _ out ∙ rw (f, l) (sym (only-one r w d .1 o out))
+
+  -- ---- errors and rejects: their layout is the whole verdict, and nothing is named
+  pub layout-is-the-verdict : (s : Octets) (given : ℕ) (t : List ℕ) {c : Component} → AreOctets s → tableSize ≤ length t → (h : LaidOut c s) →
+      (Rowed (c .kind) → ⊥) → r s given t ≡ read (accepted (tells given c [])) (tableWith (standing (h .laid)) t)
+  unfolding names
+  layout-is-the-verdict s given t o enough h n =
+      d .second .shown s given t o (record { enough = enough; laid-out = h; has-row = unasked n; fits = record { kept = none; once = λ k e. absurd (true≢false (sym e)) } })
+
+  pub nothing-named : (given : ℕ) (c : Component) → tells given c [] .named ≡ 0
+  unfolding tally names
+  nothing-named given c = go (map keyOf (c .parameters))
+    where
+      go : (ks : List ℕ) → tally (names []) ks ≡ 0
+      go [] = refl
+      go (k ∷ ks) = go ks
+
+  -- what the caller hands in plays no part, neither in the verdict nor in what is told
+  pub specifier-unread : (s : Octets) (given other : ℕ) (t : List ℕ) {c : Component} → AreOctets s → tableSize ≤ length t → LaidOut c s →
+      (Rowed (c .kind) → ⊥) → r s given t ≡ r s other t
+  unfolding toldCode
+  specifier-unread s given other t {c} o enough h n =
+      layout-is-the-verdict s given t o enough h n ∙ ap (λ x. read (accepted x) (tableWith (standing (h .laid)) t)) (same-told n) ∙ sym (layout-is-the-verdict s other t o enough h n)
+    where
+      same-told : (Rowed (c .kind) → ⊥) → tells given c [] ≡ tells other c []
+      same-told n = rw (ne-eqb (c .kind) 0xEA (λ e. n (inr e)))
+
+  pub problems-in-order : {x : Told} → r reject 13 zeros .answer ≡ accepted x → x .code ≡ record { first = 2; second = 3 }
+  problems-in-order e =
+      let p = ap (λ x. x .answer) (ours-is reject 13 zeros (small reject (omega arith)) ∙ ap (at 40) rows-live) in
+      ap (λ x. x .code) (same (sym e ∙ p))
+    where
+      same : {x y : Told} → _≡_ {A = Answer Told} (accepted x) (accepted y) → x ≡ y
+      same q = cc
+
+  pub two-in-a-reject-refused : r reject-of-two 0 zeros ≡ read (refused 6 2) zeros
+  two-in-a-reject-refused = ours-is reject-of-two 0 zeros (small reject-of-two (omega arith)) ∙ ap (at 41) rows-live
+
+  -- 5 where the parent has ended, before 21 can be asked
+  pub ended-before-the-code : r error-ended 0 zeros ≡ read (refused 5 5) zeros
+  ended-before-the-code = ours-is error-ended 0 zeros (small error-ended (omega arith)) ∙ ap (at 38) rows-live
 
   pub not-writing-nothing : ((o : Order) (out : Octets) → w o out .output ≡ out) → ⊥
   unfolding OnlyOne

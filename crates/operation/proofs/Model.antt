@@ -1,41 +1,47 @@
 -- Ours satisfies the demands.
 use Prim.Native.Nat.{ℕ, zero, suc, _+_, _*_, _<_, _≤_}
 use mathlib.Core.Path.{_≡_, refl, sym, ap, ap₂, _∙_}
-use mathlib.Core.List.{List, _++_, map}
+use mathlib.Core.Bool.{Bool, true, false}
+use mathlib.Core.List.{List, [], _∷_, _++_, map}
 use mathlib.Core.Logic.{_⊎_, inl, inr, ⊎-elim}
-use lib.ListN.{length, take, drop}
+use lib.ListN.{length, getD, take, drop}
+use lib.Dec.{eqb}
+use borrow.Author.Tests.{eqb-true, ne-eqb}
 use lib.Seq.{take-append-seam}
 use native.Mathlib.Decide.{decLt, decLe, ℕ-discrete}
 use native.Mathlib.Omega.{arith}
-use Rattle.element.specs.Octets.{Octets, AreOctets}
+use Rattle.element.specs.Octets.{Octets, AreOctets, if}
 use Rattle.element.specs.Answer.{Answer, accepted, refused}
-use Rattle.component.specs.Layout.{Layout, layoutOf, specifierIn}
-use Rattle.component.specs.Grammar.{Laid, Component, parametersOf, kindOf, identifierOf, specifierOf}
-use Rattle.component.specs.Faults.{Typed, Allowed}
+use Rattle.component.specs.Layout.{Layout, layoutOf, operationPlace}
+use Rattle.component.specs.Grammar.{Laid, Component}
 use Rattle.component.specs.Standing.{Shows, Pairwise, standing}
-use Rattle.component.specs.Table.{width, tableSize, tableWith, held, heldFrom, parametersFrom, idOf}
-use Rattle.component.specs.Composing.{written, outputAfter}
+use Rattle.component.specs.Table.{width, tableSize, tableWith, held, heldFrom, parametersFrom, idOf, codeOf, writtenCode, componentOf}
+use Rattle.component.specs.declared.Code as E
+use Rattle.component.specs.Types.{Typed, formatOf}
+use Rattle.element.specs.Output.{written, outputAfter}
 use Rattle.component.proofs.Ends.{Ends, gives, given as Ends·given, stopped, then, at-most}
 use Rattle.component.proofs.Asking.{answered}
 use Rattle.component.proofs.Taken.{taken}
-use Rattle.component.proofs.Making.{Makes, makes, entries-again, octets-again}
+use Rattle.component.proofs.Making.{makes, code-again, no-code, entries-again, octets-again}
+use Rattle.component.proofs.Composable.{Composable}
 use Rattle.component.proofs.Composes.{composes, is-composed, laid-composable}
 use Rattle.component.proofs.Entries.{as-many, holds, shown-are}
 use Rattle.component.proofs.Shown.{standing-show}
 use Rattle.component.proofs.Complete.{Reads}
-use Rattle.component.proofs.Deciding.{ask, decTyped}
+use Rattle.component.proofs.Deciding.{ask, decTyped, decAllowed}
 use Rattle.component.proofs.OneFault.{laid-out, faulty}
 use Rattle.operation.specs.Row.{Row}
 use Rattle.operation.specs.Judge.{judge}
 use Rattle.operation.specs.Finding.{rowOf}
-use Rattle.operation.specs.Reading.{Shown, reading, readingAt, shownOf}
+use Rattle.operation.specs.Reading.{Shown, operationIn, reading, readingAt, shownOf}
 use Rattle.operation.specs.Items.{itemOf, itemsOf}
 use Rattle.operation.specs.Writing.{writing}
+use Rattle.operation.specs.Codes.{operationOf, toldCode, heeded}
 use Rattle.operation.specs.Caller.{wrote, Told, Order}
 use Rattle.operation.specs.Told.{told}
-use Rattle.operation.specs.Demands.{octetsFor, ReadAgain, RowFor, ReaderRefuses, Right, tells, Stands, ordered, needed, made, Held, Ready, WriterRefuses, Writable, Demand1, Demand2}
+use Rattle.operation.specs.Demands.{Rowed, RowFor, listed, unasked, itsOperation, itsCode, octetsFor, ReadAgain, ReaderRefuses, Right, tells, Stands, ordered, needed, made, Held, Ready, WriterRefuses, Writable, Demand1, Demand2}
 use Rattle.operation.specs.Model.{reader, writer, written-as}
-use Rattle.operation.proofs.Readings.{either-row, row-ends}
+use Rattle.operation.proofs.Readings.{same-operation, either-row, row-ends}
 use Rattle.operation.proofs.RowsFound.{has-row, its-row, has-none}
 use Rattle.operation.proofs.Keys.{keys-written, fits-read, fits-written}
 use Rattle.operation.proofs.RowFaults.{row-faulty, row-either}
@@ -43,9 +49,9 @@ use Rattle.operation.proofs.OnlyOne.{reader-accepts, refused-so, ready,
 
 -- ---- the reader: what is refused is to be refused, and what is accepted is right
 module _ (s : Octets) (o : AreOctets s) where
-  same-row : {c : Component} {h : Laid c s} {l : Layout} {x : Answer Row} (given : ℕ) → Reads h l → rowOf (l .head .kind) (specifierIn s l given) 0 ≡ x →
-      rowOf (kindOf c) (specifierOf c given) 0 ≡ x
-  same-row given q e = cc (q .outlines .specifier given, q .outlines .kind)
+  same-row : {c : Component} {h : Laid c s} {l : Layout} {x : Answer Row} (given : ℕ) → Reads h l → rowOf (l .head .kind) (operationIn s (l .head) given) 0 ≡ x →
+      rowOf (c .kind) (itsOperation c given) 0 ≡ x
+  same-row given q e = cc (same-operation (q .outlines) given, q .outlines .kind)
 
   module _ (given : ℕ) (t : List ℕ) where
     abbrev Rightly : Shown → Type 0
@@ -58,8 +64,8 @@ module _ (s : Octets) (o : AreOctets s) where
         at-most Q ReaderRefuses.table λ (enough : tableSize ≤ length t).
         then (answered Q (layoutOf s) λ n d e. ReaderRefuses.fault enough (faulty s o e)) λ l e.
         let (c, h, q) = laid-out s o e in
-        then (row-ends Q (l .head .kind) (specifierIn s l given) (l .head .operation) λ f. rw (q .operation) (ReaderRefuses.no-row enough h (has-none _ _ (same-row given q f)))) λ row r.
-        let its : RowFor (kindOf c) (specifierOf c given) row = has-row _ _ _ (same-row given q (r 0)) in
+        then (row-ends Q (l .head .kind) (operationIn s (l .head) given) (operationPlace (l .head)) λ f. rw (q .operation) (ReaderRefuses.no-row enough h (has-none _ _ (same-row given q f)))) λ row r.
+        let its : RowFor (c .kind) (itsOperation c given) row = has-row _ _ _ (same-row given q (r 0)) in
         then (answered Q (judge row (map itemOf (l .entries))) λ n d f. ReaderRefuses.misfit enough h its (row-faulty row _ (rw (q .entries) at f))) λ _ j.
         gives (c, row, record { enough = enough; laid-out = h; has-row = its; fits = fits-read row (q .outlines .shows) .0 j })
 
@@ -85,16 +91,12 @@ module _ (s : Octets) (o : AreOctets s) where
         given-right f = Ends·given reader-ends f
 
     places : {c : Component} {row : Row} → Right s given t c row →
-        Pairwise (Shows s) (heldFrom 0 (length (parametersOf c)) (reader s given t .table)) (parametersOf c)
+        Pairwise (Shows s) (heldFrom 0 (length (c .parameters)) (reader s given t .table)) (c .parameters)
     places r =
         let shows = standing-show (r .laid-out .laid) in
         rw (ap (λ x. x .table) (reader-accepts s o given t r), ← as-many shows, holds _ t) shows
 
 -- ---- the writer: each question of its list, and what follows
-decAllowed : (kind size : ℕ) → Typed kind → Dec (Allowed kind size)
-decAllowed kind size (inl e) = ask (decLe size 2) (λ h. yes (inl (e, h))) λ n. no (⊎-elim (λ (_, h). n h) (λ (f, _). omega arith))
-decAllowed kind size (inr e) = ask (ℕ-discrete size 1) (λ h. yes (inr (e, h))) λ n. no (⊎-elim (λ (f, _). omega arith) (λ (_, h). n h))
-
 module _ (o : Order) where
   decEntry : (i : ℕ) → Dec (Stands o i)
   decEntry i =
@@ -124,7 +126,7 @@ module _ (o : Order) where
     abbrev Outcome : Type 0
     Outcome = ((row : Row) × Writable o out row) ⊎ ((n : ℕ) × (d : ℕ) × WriterRefuses o out n d)
 
-    fits-or-not : Ready o → {row : Row} → RowFor (o .kind) (o .specifier) row → Outcome
+    fits-or-not : Ready o → {row : Row} → RowFor (o .kind) (o .code .first) row → Outcome
     fits-or-not r {row} e =
         ⊎-elim (λ (n, d, f). inr (n, d, WriterRefuses.misfit r e f)) (λ k.
         let f = rw (keys-written 0 (ordered o)) at k in
@@ -133,7 +135,7 @@ module _ (o : Order) where
         (λ n. inr (17, needed o, WriterRefuses.no-room r e f (omega arith)))) (row-either row (itemsOf 0 (ordered o)))
 
     row-or-not : Ready o → Outcome
-    row-or-not r = ⊎-elim (λ (row, f). fits-or-not r (has-row _ _ row (f 0))) (λ f. inr (11, 0, WriterRefuses.no-row r (has-none _ _ (f 0)))) (either-row (o .kind) (o .specifier))
+    row-or-not r = ⊎-elim (λ (row, f). fits-or-not r (has-row _ _ row (f 0))) (λ f. inr (11, 0, WriterRefuses.no-row r (has-none _ _ (f 0)))) (either-row (o .kind) (o .code .first))
 
     held-or-not : Held o → Outcome
     held-or-not h =
@@ -182,10 +184,43 @@ demand1-ours = record { reader = λ s given t o e. refuses-rightly s o given t e
 inner : {A : Type 0} {x y : A} → _≡_ {A = Answer A} (accepted x) (accepted y) → x ≡ y
 inner e = cc
 
+-- what is told of a code is what a writer is handed
+module _ (c : Component) (given : ℕ) where
+  told-operation : Rowed (c .kind) → itsOperation c given ≡ itsCode c given .first
+  unfolding operationOf toldCode codeOf
+  told-operation (inl e) = rw e refl
+  told-operation (inr e) = rw e refl
+
+  handed-row : {row : Row} → RowFor (c .kind) (itsOperation c given) row → RowFor (c .kind) (itsCode c given .first) row
+  handed-row (listed k m) = listed k (rw (told-operation k) at m)
+  handed-row (unasked n) = unasked n
+
+  handed-code : Composable c → writtenCode (c .kind) (itsCode c given) ≡ c .code
+  unfolding toldCode formatOf
+  handed-code h = go (eqb (c .kind) 0xEA) refl
+    where
+      go : (t : Bool) → eqb (c .kind) 0xEA ≡ t → writtenCode (c .kind) (codeOf (if t (given ∷ []) (c .code))) ≡ c .code
+      go true e = no-code c h (rw (eqb-true (c .kind) 0xEA e)) _
+      go false e = code-again c h
+
+-- and what a writer was handed is told again
+module _ (kind : ℕ) (code : E.Code) where
+  made-operation : operationOf kind (getD (writtenCode kind code) 0 0) (code .first) ≡ code .first
+  unfolding operationOf writtenCode formatOf
+  made-operation = ask (ℕ-discrete kind 0xE9) (λ e. rw e refl) λ n. rw (ne-eqb kind 0xE9 n) refl
+
+  told-again : Typed kind → codeOf (toldCode kind (writtenCode kind code) (code .first)) ≡ heeded kind code
+  unfolding codeOf toldCode writtenCode formatOf heeded
+  told-again (h, k) =
+      ask (ℕ-discrete kind 0xE9) (λ e. rw e refl) λ a.
+      ask (ℕ-discrete kind 0xEA) (λ e. rw e refl) λ b.
+      ask (ℕ-discrete kind 0xEB) (λ e. rw e refl) λ c.
+      let e : kind ≡ 0xEC = omega arith in rw e refl
+
 module _ (s : Octets) (given : ℕ) (t : List ℕ) (out : Octets) {c : Component} {row : Row} (r : Right s given t c row) (room : length s ≤ length out) where
   -- what a reading of `s` hands on
   abbrev handed : Order
-  handed = record { kind = kindOf c; id = idOf (identifierOf c); specifier = specifierOf c given; count = length (parametersOf c); table = tableWith (standing (r .laid-out .laid)) t; source = s }
+  handed = record { kind = c .kind; id = idOf (c .id); code = itsCode c given; count = length (c .parameters); table = tableWith (standing (r .laid-out .laid)) t; source = s }
 
   composes-again : written-as handed (length out) ≡ accepted s
   unfolding writing
@@ -197,20 +232,20 @@ module _ (s : Octets) (given : ℕ) (t : List ℕ) (out : Octets) {c : Component
       rw (
         ← as-many shows,
         entries-again c composable (l .few) shows t,
-        its-row _ _ _ (r .has-row),
-        fits-written row 0 (parametersOf c) .1 (r .fits),
-        octets-again c composable given (length out) (rw e at room),
+        its-row _ _ _ (handed-row c given (r .has-row)),
+        fits-written row 0 (c .parameters) .1 (r .fits),
+        octets-again c composable _ (handed-code c given composable) (length out) (rw e at room),
         ← e,
       )
 
   handed-back : {x : Told} {after : List ℕ} → tells given c row ≡ x → after ≡ tableWith (standing (r .laid-out .laid)) t →
-      writer (record { kind = x .kind; id = x .id; specifier = x .specifier; count = x .all; table = after; source = s }) out
+      writer (record { kind = x .kind; id = x .id; code = x .code; count = x .all; table = after; source = s }) out
       ≡ record { answer = accepted (length s); output = s ++ drop (length s) out }
   unfolding written outputAfter
   handed-back p q = rw (← p, q, composes-again)
 
 reads-then-writes : (s : Octets) (given : ℕ) (t : List ℕ) (out : Octets) {x : Told} → AreOctets s → reader s given t .answer ≡ accepted x →
-    length s ≤ length out → writer (record { kind = x .kind; id = x .id; specifier = x .specifier; count = x .all; table = reader s given t .table; source = s }) out
+    length s ≤ length out → writer (record { kind = x .kind; id = x .id; code = x .code; count = x .all; table = reader s given t .table; source = s }) out
     ≡ record { answer = accepted (length s); output = s ++ drop (length s) out }
 reads-then-writes s given t out o e h =
     let (c, row, r) = accepts-rightly s o given t e in
@@ -231,47 +266,44 @@ module _ (o : Order) (out : Octets) where
   whole = octetsFor o
 
   -- what was written is right
-  written-right : o .specifier < 256 → {row : Row} → Writable o out row → (t : List ℕ) → tableSize ≤ length t →
-      Makes (o .kind) (o .id) (o .specifier) (ordered o) (made o) × Right whole (o .specifier) t (made o) row
-  written-right h {row} w t k =
-      let (m, _, few) = makes (o .kind) (o .id) (o .specifier) (ordered o) (o .count) (o .table) (o .source) h (ready o (w .ready)) in (
-        m,
-        record {
-          enough = k;
-          laid-out = record { laid = composes (m .composable); within = m .composable .size; few = rw (m .parameters-are) few };
-          has-row = rw (m .kind-is, m .specifier-is) (w .has-row);
-          fits = rw (m .parameters-are) (w .fits);
-        },
-      )
-
-  -- and read again
-  read-whole : o .specifier < 256 → {row : Row} → Writable o out row → (t : List ℕ) → tableSize ≤ length t → AreOctets whole → ReadAgain reader o whole t
-  unfolding parametersFrom
-  read-whole h {row} w t k b =
-      let (m, r) = written-right h w t k in
-      let p = reader-accepts whole b (o .specifier) t r in
-      let q = ap (λ x. x .table) p in
-      let shows = standing-show (r .laid-out .laid) in
-      let c = counted 0 (o .count) (o .table) (o .source) in
+  written-right : {row : Row} → Writable o out row → (t : List ℕ) → tableSize ≤ length t → Right whole (o .code .first) t (made o) row
+  unfolding componentOf
+  written-right w t k =
+      let (m, _, few) = makes (o .kind) (o .id) (o .code) (ordered o) (o .count) (o .table) (o .source) (ready o (w .ready)) in
       record {
-        told = tells (o .specifier) (made o) row;
-        accepts = ap (λ x. x .answer) p;
-        kind = m .kind-is;
-        id = ap idOf (m .id-is);
-        specifier = m .specifier-is;
-        count = ap length (m .parameters-are) ∙ c;
-        parameters = rw (q, ← as-many shows, holds _ t) (shown-are whole shows ∙ m .parameters-are);
+        enough = k;
+        laid-out = record { laid = composes m; within = m .size; few = few };
+        has-row = rw (made-operation (o .kind) (o .code)) (w .has-row);
+        fits = w .fits;
       }
 
-writes-then-reads : (o : Order) (out : Octets) (t : List ℕ) {n : ℕ} → o .specifier < 256 → writer o out .answer ≡ accepted n → tableSize ≤ length t →
+  -- and read again
+  read-whole : {row : Row} → Writable o out row → (t : List ℕ) → tableSize ≤ length t → AreOctets whole → ReadAgain reader o whole t
+  unfolding parametersFrom componentOf
+  read-whole {row} w t k b =
+      let r = written-right w t k in
+      let p = reader-accepts whole b (o .code .first) t r in
+      let q = ap (λ x. x .table) p in
+      let shows = standing-show (r .laid-out .laid) in
+      record {
+        told = tells (o .code .first) (made o) row;
+        accepts = ap (λ x. x .answer) p;
+        kind = refl;
+        id = refl;
+        code = told-again (o .kind) (o .code) (w .ready .held .allowed .0);
+        count = counted 0 (o .count) (o .table) (o .source);
+        parameters = rw (q, ← as-many shows, holds _ t) (shown-are whole shows);
+      }
+
+writes-then-reads : (o : Order) (out : Octets) (t : List ℕ) {n : ℕ} → writer o out .answer ≡ accepted n → tableSize ≤ length t →
     AreOctets (take n (writer o out .output)) → ReadAgain reader o (take n (writer o out .output)) t
 unfolding written outputAfter
-writes-then-reads o out t {n} h e k b =
+writes-then-reads o out t {n} e k b =
     let (row, w) = writes-accepting o out e in
     let f = writer-accepts o out w in
     let g = inner (rw f at e) in
     let p : take n (writer o out .output) ≡ whole o out = rw (f, ← g) (take-append-seam (whole o out) (drop (length (whole o out)) out)) in
-    rw p (read-whole o out h w t k (rw p at b))
+    rw p (read-whole o out w t k (rw p at b))
 
 pub demand2-ours : Demand2 reader writer
 demand2-ours =

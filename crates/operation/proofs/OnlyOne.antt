@@ -1,38 +1,39 @@
 -- Whatever satisfies the demands gives what ours gives: each refusal and each acceptance that they allow is the one that ours has.
 use Prim.Native.Nat.{ℕ, zero, suc, _+_, _<_, _≤_}
 use mathlib.Core.Path.{_≡_, refl, sym, ap, ap₂, _∙_}
-use mathlib.Core.Bool.{true, false, _||_}
 use mathlib.Core.List.{List, map}
-use mathlib.Core.Logic.{inl, inr, ⊎-elim}
+use mathlib.Core.Logic.{⊎-elim}
 use lib.ListN.{length}
-use lib.Dec.{leb, eqb}
-use borrow.Author.Tests.{le-leb, lt-leb, eq-eqb, ne-eqb}
+use lib.Dec.{leb}
+use borrow.Author.Tests.{le-leb, lt-leb}
 use native.Mathlib.Decide.{decLt}
 use native.Mathlib.Omega.{arith}
 use Rattle.element.specs.Octets.{Octets, AreOctets}
 use Rattle.element.specs.Answer.{Answer, accepted, refused, _>>=_, _>>_, check}
-use Rattle.component.specs.Layout.{Layout, layoutOf, specifierIn}
-use Rattle.component.specs.Grammar.{Parameter, Component, kindOf, specifierOf}
-use Rattle.component.specs.Faults.{LaidOut, Typed, Allowed}
-use Rattle.component.specs.Standing.{standing, specifierPlace}
+use Rattle.component.specs.Layout.{Layout, layoutOf, operationPlace}
+use Rattle.component.specs.Grammar.{Parameter, Component}
+use Rattle.component.specs.Faults.{LaidOut}
+use Rattle.component.specs.Standing.{standing, operationAt}
 use Rattle.component.specs.Composed.{composed}
 use Rattle.component.specs.Table.{tableSize, tableWith, heldFrom, parametersFrom}
-use Rattle.component.specs.Composing.{takenFrom, entriesFrom, entriesOf, idFits, octetsOf, written, outputAfter}
+use Rattle.component.specs.Composing.{takenFrom, entriesFrom, entriesOf, octetsOf}
+use Rattle.element.specs.Output.{written, outputAfter}
 use Rattle.component.specs.Needed.{octetsNeeded}
 use Rattle.component.proofs.Complete.{Reads, complete}
 use Rattle.component.proofs.Entries.{stands-true, stands-false, as-many}
 use Rattle.component.proofs.Refusing.{refuses}
+use Rattle.component.proofs.Typing.{known, unknown, fits, misfits}
 use Rattle.operation.specs.Row.{Row}
 use Rattle.operation.specs.Finding.{rowOf}
 use Rattle.operation.specs.Faults.{RowFault}
 use Rattle.operation.specs.Items.{itemOf}
-use Rattle.operation.specs.Reading.{reading, readingAt, tableAfter}
+use Rattle.operation.specs.Reading.{operationIn, reading, readingAt, tableAfter}
 use Rattle.operation.specs.Writing.{writing}
 use Rattle.operation.specs.Caller.{read, wrote, Told, Reader, Order, Writer}
 use Rattle.operation.specs.Told.{told}
-use Rattle.operation.specs.Demands.{ReaderRefuses, Right, tells, Stands, ordered, made, Held, Ready, WriterRefuses, Writable, Demand1, Demand2}
+use Rattle.operation.specs.Demands.{itsOperation, ReaderRefuses, Right, tells, Stands, ordered, made, Held, Ready, WriterRefuses, Writable, Demand1, Demand2}
 use Rattle.operation.specs.Model.{reader, writer, written-as, OnlyOne}
-use Rattle.operation.proofs.Readings.{either-row, anywhere, reads, no-row}
+use Rattle.operation.proofs.Readings.{same-operation, either-row, anywhere, reads, no-row}
 use Rattle.operation.proofs.RowsFound.{its-row, no-row-found}
 use Rattle.operation.proofs.Keys.{counts-read, fits-read, fits-written}
 use Rattle.operation.proofs.RowFaults.{row-refuses}
@@ -49,25 +50,25 @@ module _ (s : Octets) (o : AreOctets s) (given : ℕ) (t : List ℕ) where
     its-layout : (l : Layout) × (layoutOf s ≡ accepted l) × Reads (h .laid) l
     its-layout = complete (h .laid) (h .within) (h .few)
 
-    misfits : {row : Row} {n d : ℕ} → rowOf (kindOf c) (specifierOf c given) 0 ≡ accepted row → RowFault row (map itemOf (standing (h .laid))) n d →
+    faults : {row : Row} {n d : ℕ} → rowOf (c .kind) (itsOperation c given) 0 ≡ accepted row → RowFault row (map itemOf (standing (h .laid))) n d →
         reading s given (length t) ≡ refused n d
-    misfits {row} has-row f =
+    faults {row} has-row f =
         let (l, e, r) = its-layout in
-        let k : rowOf (l .head .kind) (specifierIn s l given) 0 ≡ accepted row = cc (r .outlines .specifier given) in
-        reads s given (length t) enough e (anywhere _ _ 0 k (l .head .operation)) ∙ rw (r .entries, row-refuses f)
+        let k : rowOf (l .head .kind) (operationIn s (l .head) given) 0 ≡ accepted row = cc (same-operation (r .outlines) given, r .outlines .kind) in
+        reads s given (length t) enough e (anywhere _ _ 0 k (operationPlace (l .head))) ∙ rw (r .entries, row-refuses f)
 
-    rowless : rowOf (kindOf c) (specifierOf c given) 0 ≡ refused 11 0 → reading s given (length t) ≡ refused 11 (specifierPlace (h .laid))
+    rowless : rowOf (c .kind) (itsOperation c given) 0 ≡ refused 11 0 → reading s given (length t) ≡ refused 11 (operationAt (h .laid))
     rowless none =
         let (l, e, r) = its-layout in
-        let k : rowOf (l .head .kind) (specifierIn s l given) 0 ≡ refused 11 0 = cc (r .outlines .specifier given) in
-        no-row s given (length t) enough e (nowhere _ _ k (l .head .operation)) ∙ ap (λ k. refused 11 k) (r .operation)
+        let k : rowOf (l .head .kind) (operationIn s (l .head) given) 0 ≡ refused 11 0 = cc (same-operation (r .outlines) given, r .outlines .kind) in
+        no-row s given (length t) enough e (nowhere _ _ k (operationPlace (l .head))) ∙ ap (λ k. refused 11 k) (r .operation)
 
   pub reader-refuses : {n d : ℕ} → ReaderRefuses s given t n d → reading s given (length t) ≡ refused n d
   unfolding readingAt
   reader-refuses (ReaderRefuses.table h) = rw (lt-leb tableSize (length t) h)
   reader-refuses (ReaderRefuses.fault h f) = rw (le-leb tableSize (length t) h, refuses o f)
   reader-refuses (ReaderRefuses.no-row h l e) = rowless h l (no-row-found _ _ e)
-  reader-refuses (ReaderRefuses.misfit h l e f) = misfits h l (its-row _ _ _ e) f
+  reader-refuses (ReaderRefuses.misfit h l e f) = faults h l (its-row _ _ _ e) f
 
   pub refused-so : {n d : ℕ} → reading s given (length t) ≡ refused n d → reader s given t ≡ read (refused n d) t
   unfolding told tableAfter
@@ -79,18 +80,11 @@ module _ (s : Octets) (o : AreOctets s) (given : ℕ) (t : List ℕ) where
   reader-accepts {c} {row} r =
       let (l, e, q) = its-layout (r .enough) (r .laid-out) in
       let u = q .outlines in
-      let k : rowOf (l .head .kind) (specifierIn s l given) 0 ≡ accepted row = cc (u .specifier given, its-row _ _ _ (r .has-row)) in
+      let k : rowOf (l .head .kind) (operationIn s (l .head) given) 0 ≡ accepted row = cc (same-operation u given, u .kind, its-row _ _ _ (r .has-row)) in
       let j = fits-read row (u .shows) .1 (r .fits) in
-      let f = reads s given (length t) (r .enough) e (anywhere _ _ 0 k (l .head .operation)) in
+      let f = reads s given (length t) (r .enough) e (anywhere _ _ 0 k (operationPlace (l .head))) in
       let (named, other) = counts-read row (u .shows) in
-      ap₂ read (rw (f, j, named, other, u .specifier given, u .kind, u .id, as-many (u .shows))) (rw (f, j, q .entries))
-
-not-le : {n m : ℕ} → (n ≤ m → ⊥) → m < n
-not-le {n} {m} h = go (decLt m n)
-  where
-    go : Dec (m < n) → m < n
-    go (yes k) = k
-    go (no k) = absurd (h (omega arith))
+      ap₂ read (rw (f, j, named, other, u .code, u .kind, u .id, as-many (u .shows))) (rw (f, j, q .entries))
 
 -- ---- the writer
 module _ (o : Order) where
@@ -111,27 +105,6 @@ module _ (o : Order) where
       go (no l) later = let e : bad ≡ i = omega arith in rw (stands-false (rw e at b)) (ap (λ k. refused 16 k) (sym e))
 
 module _ (o : Order) where
-  known : Typed (o .kind) → (eqb (o .kind) 0xE9 || eqb (o .kind) 0xEA) ≡ true
-  known (inl e) = rw e
-  known (inr e) = rw e
-
-  unknown : (Typed (o .kind) → ⊥) → (eqb (o .kind) 0xE9 || eqb (o .kind) 0xEA) ≡ false
-  unknown h = rw (ne-eqb (o .kind) 0xE9 (λ e. h (inl e)), ne-eqb (o .kind) 0xEA (λ e. h (inr e)))
-
-  typed : Allowed (o .kind) (o .id .count) → Typed (o .kind)
-  typed (inl h) = inl (h .0)
-  typed (inr h) = inr (h .0)
-
-  id-fits : Allowed (o .kind) (o .id .count) → idFits (o .kind) (o .id .count) ≡ true
-  unfolding idFits
-  id-fits (inl h) = rw (h .0, le-leb _ _ (h .1))
-  id-fits (inr h) = rw (h .0, eq-eqb _ _ (h .1))
-
-  id-not : Typed (o .kind) → (Allowed (o .kind) (o .id .count) → ⊥) → idFits (o .kind) (o .id .count) ≡ false
-  unfolding idFits
-  id-not (inl e) h = rw (e, lt-leb (o .id .count) 2 (not-le λ k. h (inl (e, k))))
-  id-not (inr e) h = rw (e, ne-eqb (o .id .count) 1 (λ k. h (inr (e, k))))
-
   abbrev entries : Answer (List Parameter)
   entries = entriesOf (o .kind) (o .id) (o .count) (o .table) (o .source)
 
@@ -140,7 +113,7 @@ module _ (o : Order) where
     held : {a : Answer (List Parameter)} → entriesFrom 0 (o .count) (o .table) (o .source) ≡ a →
         entries ≡ (a >>= λ ps. check (leb (octetsNeeded (o .kind) (o .id .count) ps) 4096) 15 (octetsNeeded (o .kind) (o .id .count) ps) >> accepted ps)
     unfolding entriesOf
-    held e = rw (known (typed (h .allowed)), id-fits (h .allowed), le-leb _ _ (h .few), le-leb _ _ (h .table), e)
+    held e = rw (known (h .allowed .0), fits (h .allowed), le-leb _ _ (h .few), le-leb _ _ (h .table), e)
 
   all-stand : ((i : ℕ) → i < o .count → Stands o i) → entriesFrom 0 (o .count) (o .table) (o .source) ≡ accepted (ordered o)
   all-stand h = entries-all o 0 (o .count) (λ j k _. h j (omega arith))
@@ -151,9 +124,9 @@ module _ (o : Order) where
   pub writer-refuses : (out : Octets) {n d : ℕ} → WriterRefuses o out n d → written-as o (length out) ≡ refused n d
   unfolding writing entriesOf octetsOf
   writer-refuses out (WriterRefuses.no-type h) = rw (unknown h)
-  writer-refuses out (WriterRefuses.no-id h k) = rw (known h, id-not h k)
-  writer-refuses out (WriterRefuses.too-many h k) = rw (known (typed h), id-fits h, lt-leb _ _ k)
-  writer-refuses out (WriterRefuses.no-table h k l) = rw (known (typed h), id-fits h, le-leb _ _ k, lt-leb _ _ l)
+  writer-refuses out (WriterRefuses.no-id h k) = rw (known h, misfits h k)
+  writer-refuses out (WriterRefuses.too-many h k) = rw (known (h .0), fits h, lt-leb _ _ k)
+  writer-refuses out (WriterRefuses.no-table h k l) = rw (known (h .0), fits h, le-leb _ _ k, lt-leb _ _ l)
   writer-refuses out (WriterRefuses.no-entry h k s b) = rw (held h (entries-first o 0 (o .count) (omega arith) (omega arith) s b))
   writer-refuses out (WriterRefuses.too-long h s k) = rw (held h (all-stand s), lt-leb _ _ k)
   writer-refuses out (WriterRefuses.no-row r e) = rw (ready r, no-row-found _ _ e)

@@ -11,11 +11,11 @@ use Rattle.operation.specs.Caller.{Told}
 use Rattle.operation.specs.Told.{answerIn, writtenIn}
 
 abbrev readingFor : Answer Told → R.Reading
-readingFor (accepted t) = RV.Accepted (t .kind) (t .id) (t .specifier) (t .all) (t .named) (t .other)
+readingFor (accepted t) = RV.Accepted (t .kind) (t .id) (t .code) (t .all) (t .named) (t .other)
 readingFor (refused n d) = RV.Refused n d
 
 same-reading : (x : R.Reading) → readingFor (answerIn x) ≡ x
-same-reading (RV.Accepted kind id specifier all named other) = refl
+same-reading (RV.Accepted kind id code all named other) = refl
 same-reading (RV.Refused n d) = refl
 
 pub one-reading : {x y : R.Reading} {told : Answer Told} → answerIn x ≡ told → answerIn y ≡ told → x ≡ y

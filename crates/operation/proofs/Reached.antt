@@ -1,28 +1,27 @@
 -- From the engine's answer over the sheet to the reading: the row, the counts, and each place that a refusal points to.
 use Prim.Native.Nat.{ℕ, _*_, _-_}
 use mathlib.Core.Path.{_≡_, refl}
-use mathlib.Core.Bool.{Bool, true, false}
+use mathlib.Core.Bool.{false}
 use mathlib.Core.List.{List, map}
 use mathlib.Core.Logic.{⊎-elim}
 use lib.ListN.{length, length-map}
 use lib.Seq.{take-append-seam}
 use lib.Dec.{eqb}
 use native.Mathlib.Omega.{arith}
-use Rattle.element.specs.Octets.{Octets, if}
+use Rattle.element.specs.Octets.{Octets}
 use Rattle.element.specs.Answer.{Answer, accepted, refused, _>>=_, _>>_}
 use Rattle.component.specs.Table.{Entry, width, tableWith, held}
-use Rattle.component.specs.Layout.{Layout, specifierIn}
-use Rattle.component.specs.Outline.{headingOf, specifierAt}
+use Rattle.component.specs.Layout.{Layout, operationPlace}
 use Rattle.component.proofs.Entries.{numbers-length}
 use Rattle.operation.specs.Row.{Row, Item}
 use Rattle.operation.specs.Judge.{judge, countNamed, pointed}
 use Rattle.operation.specs.Faults.{RowFault, again, missing, both}
 use Rattle.operation.specs.inner.Coded.{itemsFrom, judgement, verdict}
 use Rattle.operation.specs.Items.{itemOf}
-use Rattle.operation.specs.Reading.{countOther, shownBy, shownOf, tableAfter}
+use Rattle.operation.specs.Reading.{operationIn, countOther, shownBy, shownOf, tableAfter}
 use Rattle.operation.specs.Told.{told}
 use Rattle.operation.specs.inner.Sheet.{copied}
-use Rattle.operation.specs.inner.Finishing.{specifierFor, detailOf, finished, tableFinished}
+use Rattle.operation.specs.inner.Finishing.{detailOf, finished, tableFinished}
 use Rattle.operation.proofs.Marks.{marked, count-marked}
 use Rattle.operation.proofs.RowFaults.{row-faulty}
 use Rattle.operation.proofs.Readings.{either-row, shown-by, not-shown}
@@ -32,15 +31,7 @@ copies : (es : List Entry) (z t : List ℕ) → copied (tableWith es z) t (width
 unfolding tableWith
 copies es z t = simp (← numbers-length es, take-append-seam)
 
-twice : (t : Bool) (a b c : ℕ) → if t (if t a c) b ≡ if t a b
-twice true a b c = refl
-twice false a b c = refl
-
 module _ (s : Octets) (given : ℕ) (z : List ℕ) (l : Layout) where
-  pub own : specifierFor (headingOf s (l .head)) given ≡ specifierIn s l given
-  unfolding specifierFor headingOf specifierAt specifierIn
-  own = twice (eqb (l .head .kind) 0xE9) _ given 0
-
   abbrev sheet : List ℕ
   sheet = tableWith (l .entries) z
 
@@ -64,9 +55,9 @@ module _ (s : Octets) (given : ℕ) (z : List ℕ) (l : Layout) where
     others = omega (arith, all-counted row (map itemOf (l .entries)), length-map (l .entries) itemOf, same-count)
 
     judged : (a : Answer Unit) → judge row items ≡ a →
-        finished (headingOf s (l .head)) (specifierIn s l given) (length (l .entries)) sheet (a >>= λ _. accepted (countNamed row items))
+        finished s (l .head) given (length (l .entries)) sheet (a >>= λ _. accepted (countNamed row items))
         ≡ told (pointed (λ i. held sheet i .place) a >>= λ _. accepted (shownBy s l given row))
-    unfolding finished detailOf told pointed headingOf
+    unfolding finished detailOf told pointed
     judged (accepted u) q = simp (others, same-count)
     judged (refused n d) q = rw (not-eleven (row-faulty row items q))
 
@@ -78,29 +69,29 @@ module _ (s : Octets) (given : ℕ) (z : List ℕ) (l : Layout) where
     shows t (refused n d) = refl
 
   -- ---- whatever the row
-  none-told : finished (headingOf s (l .head)) (specifierIn s l given) (length (l .entries)) sheet (refused 11 0) ≡ told (refused 11 (l .head .operation))
-  unfolding finished detailOf told headingOf
+  none-told : finished s (l .head) given (length (l .entries)) sheet (refused 11 0) ≡ told (refused 11 (operationPlace (l .head)))
+  unfolding finished detailOf told
   none-told = refl
 
-  none-shown : (t : List ℕ) → tableFinished (length (l .entries)) sheet t (refused 11 0) ≡ tableAfter t (refused 11 (l .head .operation))
+  none-shown : (t : List ℕ) → tableFinished (length (l .entries)) sheet t (refused 11 0) ≡ tableAfter t (refused 11 (operationPlace (l .head)))
   unfolding tableFinished tableAfter
   none-shown t = refl
 
   abbrev said : Answer ℕ
-  said = verdict (l .head .kind) (specifierIn s l given) items
+  said = verdict (l .head .kind) (operationIn s (l .head) given) items
 
-  pub answers : finished (headingOf s (l .head)) (specifierIn s l given) (length (l .entries)) sheet said ≡ told (shownOf s given l)
+  pub answers : finished s (l .head) given (length (l .entries)) sheet said ≡ told (shownOf s given l)
   unfolding verdict judgement
   answers =
       ⊎-elim
-      (λ (row, f). rw (f 0, shown-by s given l (f (l .head .operation)), by-place row) (judged row (judge row items) refl))
-      (λ f. rw (f 0, not-shown s given l (f (l .head .operation))) none-told)
-      (either-row (l .head .kind) (specifierIn s l given))
+      (λ (row, f). rw (f 0, shown-by s given l (f (operationPlace (l .head))), by-place row) (judged row (judge row items) refl))
+      (λ f. rw (f 0, not-shown s given l (f (operationPlace (l .head)))) none-told)
+      (either-row (l .head .kind) (operationIn s (l .head) given))
 
   pub tables : (t : List ℕ) → tableFinished (length (l .entries)) sheet t said ≡ tableAfter t (shownOf s given l)
   unfolding verdict judgement
   tables t =
       ⊎-elim
-      (λ (row, f). rw (f 0, shown-by s given l (f (l .head .operation)), by-place row) (shows row t (judge row items)))
-      (λ f. rw (f 0, not-shown s given l (f (l .head .operation))) (none-shown t))
-      (either-row (l .head .kind) (specifierIn s l given))
+      (λ (row, f). rw (f 0, shown-by s given l (f (operationPlace (l .head))), by-place row) (shows row t (judge row items)))
+      (λ f. rw (f 0, not-shown s given l (f (operationPlace (l .head)))) (none-shown t))
+      (either-row (l .head .kind) (operationIn s (l .head) given))

@@ -3,16 +3,18 @@ use Prim.Native.Nat.{ℕ}
 use mathlib.Core.Path.{_≡_, refl, sym, ap}
 use mathlib.Core.Bool.{Bool, true, false, _&&_, not, true≢false}
 use mathlib.Core.List.{List, [], _∷_, List·Memᴰ, List·Memᴰ·head, List·Memᴰ·tail}
-use mathlib.Core.Logic.{⊎-elim}
+use mathlib.Core.Logic.{inl, inr, ⊎-elim}
 use lib.Dec.{eqb}
-use borrow.Author.Tests.{eqb-true, eq-eqb, not-true}
+use borrow.Author.Tests.{eqb-true, eq-eqb, ne-eqb, not-true}
+use native.Mathlib.Decide.{ℕ-discrete}
 use native.Mathlib.Omega.{arith}
 use Rattle.element.specs.Octets.{if}
 use Rattle.element.specs.Answer.{accepted, refused}
 use Rattle.operation.specs.Row.{Row}
 use Rattle.operation.specs.Rows.{Operation, operations}
-use Rattle.operation.specs.Finding.{find, rowOf}
-use Rattle.operation.specs.Demands.{RowFor, NoRow}
+use Rattle.operation.specs.Finding.{find, rowed, rowOf}
+use Rattle.operation.specs.Demands.{Rowed, RowFor, listed, unasked, NoRow}
+use Rattle.component.proofs.Deciding.{ask}
 use Rattle.operation.proofs.Readings.{either-row}
 
 unfoldable fresh : (kind specifier : ℕ) → List Operation → Bool
@@ -30,6 +32,19 @@ all-distinct = refl
 pub both : (a b : Bool) → (a && b) ≡ true → (a ≡ true) × (b ≡ true)
 both true b e = (refl, e)
 both false b e = absurd (true≢false (sym e))
+
+-- the types that have rows
+decRowed : (kind : ℕ) → Dec (Rowed kind)
+decRowed kind = ask (ℕ-discrete kind 0xE9) (λ e. yes (inl e)) λ n. ask (ℕ-discrete kind 0xEA) (λ e. yes (inr e)) λ m. no (⊎-elim n m)
+
+row-asked : {kind : ℕ} → Rowed kind → rowed kind ≡ true
+unfolding rowed
+row-asked (inl e) = rw e
+row-asked (inr e) = rw e
+
+pub none-asked : {kind : ℕ} → (Rowed kind → ⊥) → rowed kind ≡ false
+unfolding rowed
+none-asked {kind} n = rw (ne-eqb kind 0xE9 (λ e. n (inl e)), ne-eqb kind 0xEA (λ e. n (inr e)))
 
 same-operation : {o : Operation} {kind specifier : ℕ} {row : Row} → kind ≡ o .kind → specifier ≡ o .specifier → row ≡ o .row →
     record { kind = kind; specifier = specifier; row = row } ≡ o
@@ -76,11 +91,18 @@ module _ (kind specifier : ℕ) (row : Row) where
 
   pub has-row : rowOf kind specifier 0 ≡ accepted row → RowFor kind specifier row
   unfolding rowOf
-  has-row e = found-in operations e
+  has-row e = ask (decRowed kind) (λ k. listed k (found-in operations (rw (row-asked k) at e))) λ n. none n (rw (none-asked n) at e)
+    where
+      none : (Rowed kind → ⊥) → accepted [] ≡ accepted row → RowFor kind specifier row
+      none n e =
+          let q : [] ≡ row = cc in
+          let u : RowFor kind specifier [] = unasked n in
+          rw q at u
 
-  pub its-row : RowFor kind specifier row → rowOf kind specifier 0 ≡ accepted row
-  unfolding rowOf
-  its-row m = find-it operations all-distinct m
+pub its-row : (kind specifier : ℕ) (row : Row) → RowFor kind specifier row → rowOf kind specifier 0 ≡ accepted row
+unfolding rowOf
+its-row kind specifier row (listed k m) = rw (row-asked k) (find-it kind specifier row operations all-distinct m)
+its-row kind specifier row (unasked n) = rw (none-asked n) refl
 
 module _ (kind specifier : ℕ) where
   pub has-none : rowOf kind specifier 0 ≡ refused 11 0 → NoRow kind specifier

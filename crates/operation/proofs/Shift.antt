@@ -1,25 +1,26 @@
 -- A component read behind other octets is the component read alone, with every place moved on by as many.
-use Prim.Native.Nat.{ℕ, _+_}
+use Prim.Native.Nat.{ℕ, _+_, _<_}
 use mathlib.Core.Path.{_≡_, refl}
-use mathlib.Core.Bool.{Bool, true, false, not}
+use mathlib.Core.Bool.{Bool, true, false}
 use mathlib.Core.Logic.{⊎-elim}
 use mathlib.Core.List.{List, [], _∷_, _++_, map}
 use lib.ListN.{length}
 use lib.Dec.{eqb}
-use borrow.Author.Tests.{eqb-true}
+use borrow.Author.Tests.{ne-eqb}
+use native.Mathlib.Omega.{arith}
 use Rattle.element.specs.Octets.{Octets, if}
 use Rattle.element.specs.Answer.{Answer, accepted, refused}
 use Rattle.component.specs.Table.{Entry}
-use Rattle.component.specs.Layout.{Layout}
-use Rattle.component.specs.Onward.{entryOn}
-use Rattle.component.proofs.Shift.{Detail, on, kept, On, both, stop, Any, By, equation, then, part, layout-on, specifier-on}
+use Rattle.component.specs.Layout.{Head, operationPlace}
+use Rattle.component.specs.Onward.{entryOn, headOn}
+use Rattle.component.proofs.Shift.{Detail, on, kept, On, both, stop, Any, By, equation, then, seen, part, layout-on, code-octets-on}
 use Rattle.operation.specs.Row.{Row, Item}
 use Rattle.operation.specs.Judge.{judge, pointed, remark}
 use Rattle.operation.specs.Finding.{rowOf}
 use Rattle.operation.specs.Items.{itemOf}
 use Rattle.operation.specs.Faults.{RowFault, again, missing}
 use Rattle.operation.specs.Faults as F
-use Rattle.operation.specs.Reading.{countOther, shownOf, readingFrom}
+use Rattle.operation.specs.Reading.{operationIn, countOther, shownOf, readingFrom}
 use Rattle.operation.specs.Inside.{shownOn, Shifts}
 use Rattle.operation.proofs.Marks.{marked, count-marked}
 use Rattle.operation.proofs.RowFaults.{row-faulty}
@@ -45,13 +46,17 @@ module _ (pre c : Octets) where
   row-on : (kind specifier at at′ : ℕ) → Detail n 11 at at′ → On n _≡_ (rowOf kind specifier at) (rowOf kind specifier at′)
   row-on kind specifier at at′ q = ⊎-elim (λ (row, f). rw (f at, f at′) (both refl)) (λ f. rw (f at, f at′) (stop q)) (either-row kind specifier)
 
-  eleven : (l : Layout) → eqb (l .head .operation) 0 ≡ not (eqb (l .head .kind) 0xE9) →
-      Detail n 11 (l .head .operation) (if (eqb (l .head .kind) 0xE9) (n + l .head .operation) 0)
-  eleven l p = go (eqb (l .head .kind) 0xE9) p
+  eleven : (h : Head) → 0 < h .code → Detail n 11 (operationPlace h) (operationPlace (headOn n h))
+  unfolding operationPlace
+  eleven h p = go (eqb (h .kind) 0xE9)
     where
-      go : (t : Bool) → eqb (l .head .operation) 0 ≡ not t → Detail n 11 (l .head .operation) (if t (n + l .head .operation) 0)
-      go true e = on e refl
-      go false e = let z : l .head .operation ≡ 0 = eqb-true _ 0 e in rw z (kept refl)
+      go : (t : Bool) → Detail n 11 (if t (h .code) 0) (if t (n + h .code) 0)
+      go true = on (ne-eqb (h .code) 0 (λ z. omega arith)) refl
+      go false = kept refl
+
+  operation-on : (h : Head) (given : ℕ) → operationIn s (headOn n h) given ≡ operationIn c h given
+  unfolding operationIn
+  operation-on h given = rw (seen pre c (h .code)) refl
 
   pointing : {row : Row} {xs : List Item} {k d : ℕ} → RowFault row xs k d → Detail n k d (if (eqb k 13) d (n + d))
   pointing (again before x behind e o m r u) = on refl refl
@@ -70,8 +75,8 @@ module _ (pre c : Octets) where
   unfolding readingFrom shownOf
   reading-on given =
       then (layout-on pre c) λ l l′ e.
-      rw (e .is, specifier-on pre c l given)
-      (then (row-on _ _ _ _ (eleven l (e .points))) λ row row′ q.
+      rw (e .is, operation-on (l .head) given, code-octets-on pre c (l .head))
+      (then (row-on _ _ _ _ (eleven (l .head) (e .points))) λ row row′ q.
       rw (← q, marks-on (l .entries))
       (then (judged-on row (map itemOf (l .entries))) λ _ _ _.
       both (rw (part pre c (l .head .id .start) (l .head .id .end), count-marked (λ d. n + d) row (map itemOf (l .entries)), other-marked row (map itemOf (l .entries))) refl)))

@@ -10,7 +10,7 @@ use native.Mathlib.Omega.{arith}
 use Rattle.element.specs.Octets.{Octets, AreOctets, if}
 use Rattle.element.specs.Answer.{Answer, accepted, refused}
 use Rattle.component.specs.Table.{tableSize, tableWith}
-use Rattle.component.specs.Grammar.{Parameter, Component, parametersOf, kindOf, identifierOf, specifierOf}
+use Rattle.component.specs.Grammar.{Parameter, Component}
 use Rattle.component.specs.Faults.{LaidOut}
 use Rattle.component.specs.Standing.{Shows, Pairwise, standing}
 use Rattle.component.proofs.Shown.{standing-show}
@@ -19,7 +19,7 @@ use Rattle.operation.specs.Judge.{judge, pointed}
 use Rattle.operation.specs.Faults.{RowFault, again, missing, both}
 use Rattle.operation.specs.Items.{itemOf}
 use Rattle.operation.specs.Caller.{read}
-use Rattle.operation.specs.Demands.{RowFor, keyOf, tally, ReaderRefuses, tells, Joined, done, kept, newcomer, moved, newcomers, joined, placeIn, Truthful, both-accepted, same-missing, same-parameter, Demand3}
+use Rattle.operation.specs.Demands.{itsOperation, RowFor, keyOf, tally, ReaderRefuses, tells, Joined, done, kept, newcomer, moved, newcomers, joined, placeIn, Truthful, both-accepted, same-missing, same-parameter, Demand3}
 use Rattle.operation.specs.Model.{reader, Ours}
 use Rattle.operation.proofs.Untouched.{untouched}
 use Rattle.operation.proofs.Marked.{indexed, judged, inside, items, grown}
@@ -54,8 +54,8 @@ module _ {row : Row} where
 
 module _ (given : ℕ) (t : List ℕ) (enough : tableSize ≤ length t) {row : Row} where
   -- a component that is laid out, and its row: what ours reads
-  module _ {c : Component} {s : Octets} (o : AreOctets s) (h : LaidOut c s) (e : RowFor (kindOf c) (specifierOf c given) row) where
-    shows : Pairwise (Shows s) (standing (h .laid)) (parametersOf c)
+  module _ {c : Component} {s : Octets} (o : AreOctets s) (h : LaidOut c s) (e : RowFor (c .kind) (itsOperation c given) row) where
+    shows : Pairwise (Shows s) (standing (h .laid)) (c .parameters)
     shows = standing-show (h .laid)
 
     all-right : judge row (map itemOf (standing (h .laid))) ≡ accepted tt → reader s given t ≡ read (accepted (tells given c row)) (tableWith (standing (h .laid)) t)
@@ -65,37 +65,37 @@ module _ (given : ℕ) (t : List ℕ) (enough : tableSize ≤ length t) {row : R
     not-right j = refused-so s o given t (reader-refuses s o given t (ReaderRefuses.misfit enough h e (row-faulty row _ j)))
 
   module _ {c d : Component} {s u : Octets} (o : AreOctets s) (b : AreOctets u) (h : LaidOut c s) (k : LaidOut d u)
-      (kind : kindOf d ≡ kindOf c) (id : identifierOf d ≡ identifierOf c) (specifier : specifierOf d given ≡ specifierOf c given)
-      (e : RowFor (kindOf c) (specifierOf c given) row) (j : Joined row (parametersOf c) (parametersOf d)) where
+      (kind : d .kind ≡ c .kind) (id : d .id ≡ c .id) (code : d .code ≡ c .code)
+      (e : RowFor (c .kind) (itsOperation c given) row) (j : Joined row (c .parameters) (d .parameters)) where
     abbrev f : ℕ → ℕ
     f = placeIn (standing (h .laid))
 
     abbrev g : ℕ → ℕ
     g i = placeIn (standing (k .laid)) (moved j i)
 
-    its-row : RowFor (kindOf d) (specifierOf d given) row
-    its-row = rw (kind, specifier) e
+    its-row : RowFor (d .kind) (itsOperation d given) row
+    its-row = rw (kind, code) e
 
-    older : judge row (map itemOf (standing (h .laid))) ≡ pointed f (judge row (indexed (parametersOf c)))
-    older = rw (items (shows o h e) .0) (judged row f (parametersOf c))
+    older : judge row (map itemOf (standing (h .laid))) ≡ pointed f (judge row (indexed (c .parameters)))
+    older = rw (items (shows o h e) .0) (judged row f (c .parameters))
 
-    newer : judge row (map itemOf (standing (k .laid))) ≡ pointed g (judge row (indexed (parametersOf c)))
-    newer = rw (items (shows b k its-row) .0) (untouched row _ _ (grown (placeIn (standing (k .laid))) j) ∙ judged row g (parametersOf c))
+    newer : judge row (map itemOf (standing (k .laid))) ≡ pointed g (judge row (indexed (c .parameters)))
+    newer = rw (items (shows b k its-row) .0) (untouched row _ _ (grown (placeIn (standing (k .laid))) j) ∙ judged row g (c .parameters))
 
     told-more : tells given d row ≡ joined (tells given c row) (newcomers j)
-    told-more = rw (specifier, kind, id, more-parameters j, as-many-named j, more-others j)
+    told-more = rw (code, kind, id, more-parameters j, as-many-named j, more-others j)
 
-    refused-both : (n i : ℕ) → RowFault row (indexed (parametersOf c)) n i →
+    refused-both : (n i : ℕ) → RowFault row (indexed (c .parameters)) n i →
         Truthful (h .laid) (k .laid) j t (read (refused n (if (eqb n 13) i (f i))) t) (read (refused n (if (eqb n 13) i (g i))) t)
     refused-both n i (again before x behind e o m r u) =
         let (y, mem, mark) = pointed-at (again before x behind e o m r u) (λ z. omega arith) in
-        (same-parameter 12 (x .mark) (inl refl) (rw mark at (inside (parametersOf c) mem)))
+        (same-parameter 12 (x .mark) (inl refl) (rw mark at (inside (c .parameters) mem)))
     refused-both n i (missing _ _) = same-missing _
     refused-both n i (both {x = x} o e p y) =
         let (z, mem, mark) = pointed-at (both o e p y) (λ z. omega arith) in
-        (same-parameter 14 (x .mark) (inr refl) (rw mark at (inside (parametersOf c) mem)))
+        (same-parameter 14 (x .mark) (inr refl) (rw mark at (inside (c .parameters) mem)))
 
-    verdict : (a : Answer Unit) → judge row (indexed (parametersOf c)) ≡ a → Truthful (h .laid) (k .laid) j t (reader s given t) (reader u given t)
+    verdict : (a : Answer Unit) → judge row (indexed (c .parameters)) ≡ a → Truthful (h .laid) (k .laid) j t (reader s given t) (reader u given t)
     unfolding pointed
     verdict (accepted _) q =
         let p = all-right o h e (older ∙ ap (pointed f) q) in
@@ -107,7 +107,7 @@ module _ (given : ℕ) (t : List ℕ) (enough : tableSize ≤ length t) {row : R
         rw (p, r) (refused-both n i (row-faulty row _ q))
 
 pub demand3-ours : Demand3 reader
-demand3-ours = record { truthful = λ given c d s u t o b enough h k kind id specifier e j. verdict given t enough o b h k kind id specifier e j _ refl }
+demand3-ours = record { truthful = λ given c d s u t o b enough h k kind id code e j. verdict given t enough o b h k kind id code e j _ refl }
 
 pub ours : Ours
 unfolding Ours

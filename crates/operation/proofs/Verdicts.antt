@@ -5,9 +5,9 @@ use mathlib.Core.Path.{_≡_, refl}
 use mathlib.Core.List.{List, [], _∷_}
 use borrow.Author.Tests.{ne-eqb}
 use Rattle.element.specs.Answer.{Answer, accepted, refused, _>>_}
-use Rattle.operation.specs.Row.{Row, Item}
+use Rattle.operation.specs.Row.{Row, Item, named}
 use Rattle.operation.specs.Judge.{once, present, single, judge, countNamed}
-use Rattle.operation.specs.Finding.{rowOf, find}
+use Rattle.operation.specs.Finding.{rowed, rowOf, find}
 use Rattle.operation.specs.Rows.{operations}
 use Rattle.operation.specs.inner.Coded.{judgement, verdict}
 use Rattle.operation.specs.inner.Firsts.{onceCounted}
@@ -51,6 +51,17 @@ abbrev NoneOf : ℕ → List ℕ → Type 0
 NoneOf n [] = Unit
 NoneOf n (k ∷ ks) = NoneOf n ks × (n ≡ k → ⊥)
 
+-- a row of no line asks for nothing and names nothing
+nothing-again : (seen xs : List Item) → once [] seen xs ≡ accepted tt
+unfolding once named
+nothing-again seen [] = refl
+nothing-again seen (x ∷ xs) = nothing-again (x ∷ seen) xs
+
+none-named : (xs : List Item) → countNamed [] xs ≡ 0
+unfolding countNamed named
+none-named [] = refl
+none-named (x ∷ xs) = none-named xs
+
 module _ (xs : List Item) where
   -- at an operation whose row is that of the code
   pub found : (kind : ℕ) {specifier k : ℕ} {row : Row} {r : Answer ℕ} → specifier ≡ k → rowOf kind k 0 ≡ accepted row →
@@ -64,13 +75,14 @@ module _ (xs : List Item) where
   none kind specifier e = rw e
 
   pub no-invoke : {specifier : ℕ} → NoneOf specifier (101 ∷ 37 ∷ 32 ∷ 15 ∷ 13 ∷ 4 ∷ []) → refused 11 0 ≡ verdict 0xE9 specifier xs
-  unfolding rowOf find operations
+  unfolding rowOf rowed find operations
   no-invoke ((((((_, a), b), c), d), e), f) = none 0xE9 _ (simp ne-eqb)
 
   pub no-result : {specifier : ℕ} → NoneOf specifier (101 ∷ 64 ∷ 26 ∷ 14 ∷ 13 ∷ 4 ∷ []) → refused 11 0 ≡ verdict 0xEA specifier xs
-  unfolding rowOf find operations
+  unfolding rowOf rowed find operations
   no-result ((((((_, a), b), c), d), e), f) = none 0xEA _ (simp ne-eqb)
 
-  pub no-kind : (kind specifier : ℕ) → (kind ≡ 0xE9 → ⊥) → (kind ≡ 0xEA → ⊥) → refused 11 0 ≡ verdict kind specifier xs
-  unfolding rowOf find operations
-  no-kind kind specifier i r = none kind specifier (simp ne-eqb)
+  -- at a type that has no rows
+  pub no-kind : {kind : ℕ} (specifier : ℕ) → NoneOf kind (0xEA ∷ 0xE9 ∷ []) → accepted 0 ≡ verdict kind specifier xs
+  unfolding verdict judgement judge present single rowOf rowed
+  no-kind {kind} specifier ((_, i), r) = rw (ne-eqb kind 0xE9 i, ne-eqb kind 0xEA r, nothing-again [] xs, none-named xs)

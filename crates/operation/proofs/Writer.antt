@@ -9,9 +9,11 @@ use native.Mathlib.Omega.{arith}
 use Rattle.element.specs.Octets.{Octets}
 use Rattle.element.specs.Answer.{Answer, accepted, refused, _>>=_}
 use Rattle.component.specs.declared.Id as D
+use Rattle.component.specs.declared.Code as E
 use Rattle.component.specs.Grammar.{Parameter}
 use Rattle.component.specs.Table.{width, held, heldFrom, parameterOf}
-use Rattle.component.specs.Composing.{entryStands, takenFrom, entriesFrom, entriesOf, Sizes, measured, octetsOf, composing, written, outputAfter}
+use Rattle.component.specs.Composing.{entryStands, takenFrom, entriesFrom, entriesOf, Sizes, measured, octetsOf, composing}
+use Rattle.element.specs.Output.{written, outputAfter}
 use Rattle.component.specs.Needed.{octetsNeeded}
 use Rattle.component.proofs.Taken.{taken, passed, stopped}
 use Rattle.component.proofs.Measuring.{sizesOf, ready}
@@ -52,19 +54,19 @@ module _ (kind specifier count : ℕ) (t : List ℕ) where
     judged h = simp (le-leb count 64, le-leb (width * count) (length t))
 
 -- what is done with the parameters once the row has accepted them
-module _ (kind : ℕ) (id : D.Id) (specifier count : ℕ) (t : List ℕ) (source : Octets) {A : Type 0} (work : List Parameter → Answer A) where
+module _ (kind : ℕ) (id : D.Id) (code : E.Code) (count : ℕ) (t : List ℕ) (source : Octets) {A : Type 0} (work : List Parameter → Answer A) where
   abbrev after : Answer A
-  after = entriesOf kind id count t source >>= λ ps. rowOf kind specifier 0 >>= λ row. judge row (itemsOf 0 ps) >>= λ _. work ps
+  after = entriesOf kind id count t source >>= λ ps. rowOf kind (code .first) 0 >>= λ row. judge row (itemsOf 0 ps) >>= λ _. work ps
 
   pub not-measured : {n d : ℕ} → refused n d ≡ measured kind id count t source → refused n d ≡ after
   unfolding measured
   not-measured e = sym (stopped (entriesOf kind id count t source) (sizesOf kind (id .count)) _ (sym e))
 
-  then : {ps : List Parameter} → entriesOf kind id count t source ≡ accepted ps → after ≡ (said kind specifier count t >>= λ _. work ps)
+  then : {ps : List Parameter} → entriesOf kind id count t source ≡ accepted ps → after ≡ (said kind (code .first) count t >>= λ _. work ps)
   unfolding verdict judgement
   then {ps} e =
       let r = ready kind id count t source e in
-      simp (e, ← judged kind specifier count t (r .few) (r .room), same-items t source 0 count (r .entries)) (go (rowOf kind specifier 0))
+      simp (e, ← judged kind (code .first) count t (r .few) (r .room), same-items t source 0 count (r .entries)) (go (rowOf kind (code .first) 0))
     where
       step : (a : Answer Unit) (n : ℕ) (b : Answer A) → (a >>= λ _. b) ≡ ((a >>= λ _. accepted n) >>= λ _. b)
       step (accepted u) m b = refl
@@ -77,68 +79,68 @@ module _ (kind : ℕ) (id : D.Id) (specifier count : ℕ) (t : List ℕ) (source
       go (refused n d) = refl
 
   -- where the row accepts, as without it; where it refuses, what it says
-  pub fits : {named : ℕ} → accepted named ≡ said kind specifier count t → (entriesOf kind id count t source >>= work) ≡ after
+  pub fits : {named : ℕ} → accepted named ≡ said kind (code .first) count t → (entriesOf kind id count t source >>= work) ≡ after
   fits {named} f = go (entriesOf kind id count t source) refl
     where
       go : (a : Answer (List Parameter)) → entriesOf kind id count t source ≡ a → (entriesOf kind id count t source >>= work) ≡ after
       go (accepted ps) e = rw e (sym (rw (e, ← f) at (then e)))
       go (refused n d) e = rw e refl
 
-  pub refuses : {sizes : Sizes} → accepted sizes ≡ measured kind id count t source → {n d : ℕ} → refused n d ≡ said kind specifier count t → refused n d ≡ after
+  pub refuses : {sizes : Sizes} → accepted sizes ≡ measured kind id count t source → {n d : ℕ} → refused n d ≡ said kind (code .first) count t → refused n d ≡ after
   unfolding measured
   refuses e f = let (ps, g, _) = taken (entriesOf kind id count t source) (sym e) in sym (then g ∙ rw (← f))
 
-module _ (kind : ℕ) (id : D.Id) (specifier count : ℕ) (t : List ℕ) (source : Octets) where
-  pub weighs : {sizes : Sizes} → accepted sizes ≡ measured kind id count t source → {named : ℕ} → accepted named ≡ said kind specifier count t →
-      accepted (sizes .whole) ≡ weighing kind id specifier count t source
+module _ (kind : ℕ) (id : D.Id) (code : E.Code) (count : ℕ) (t : List ℕ) (source : Octets) where
+  pub weighs : {sizes : Sizes} → accepted sizes ≡ measured kind id count t source → {named : ℕ} → accepted named ≡ said kind (code .first) count t →
+      accepted (sizes .whole) ≡ weighing kind id code count t source
   unfolding measured weighing
-  weighs {sizes} e f = go (entriesOf kind id count t source) e ∙ fits kind id specifier count t source (λ ps. accepted (octetsNeeded kind (id .count) ps)) f
+  weighs {sizes} e f = go (entriesOf kind id count t source) e ∙ fits kind id code count t source (λ ps. accepted (octetsNeeded kind (id .count) ps)) f
     where
       go : (a : Answer (List Parameter)) → accepted sizes ≡ (a >>= λ ps. accepted (sizesOf kind (id .count) ps)) →
           accepted (sizes .whole) ≡ (a >>= λ ps. accepted (octetsNeeded kind (id .count) ps))
       go (accepted ps) g = let k : sizes ≡ sizesOf kind (id .count) ps = cc in rw k refl
       go (refused n d) g = let z : _≡_ {A = ℕ} 0 1 = cc in absurd (omega arith)
 
-  pub weight-refused : {sizes : Sizes} → accepted sizes ≡ measured kind id count t source → {n d : ℕ} → refused n d ≡ said kind specifier count t →
-      refused n d ≡ weighing kind id specifier count t source
+  pub weight-refused : {sizes : Sizes} → accepted sizes ≡ measured kind id count t source → {n d : ℕ} → refused n d ≡ said kind (code .first) count t →
+      refused n d ≡ weighing kind id code count t source
   unfolding weighing
-  weight-refused e f = refuses kind id specifier count t source (λ ps. accepted (octetsNeeded kind (id .count) ps)) e f
+  weight-refused e f = refuses kind id code count t source (λ ps. accepted (octetsNeeded kind (id .count) ps)) e f
 
-  pub no-weight : {n d : ℕ} → refused n d ≡ measured kind id count t source → refused n d ≡ weighing kind id specifier count t source
+  pub no-weight : {n d : ℕ} → refused n d ≡ measured kind id count t source → refused n d ≡ weighing kind id code count t source
   unfolding weighing
-  no-weight e = not-measured kind id specifier count t source (λ ps. accepted (octetsNeeded kind (id .count) ps)) e
+  no-weight e = not-measured kind id code count t source (λ ps. accepted (octetsNeeded kind (id .count) ps)) e
 
   -- what the writer leaves in the output
   module _ (out : Octets) where
     abbrev Outcome : (answer : Answer ℕ) (after : Octets) → Type 0
     Outcome answer after =
-        (answer ≡ written (writing kind id specifier count t source (length out)))
-        × (after ≡ outputAfter out (writing kind id specifier count t source (length out)))
+        (answer ≡ written (writing kind id code count t source (length out)))
+        × (after ≡ outputAfter out (writing kind id code count t source (length out)))
 
-    pub composes : {named : ℕ} → accepted named ≡ said kind specifier count t → {answer : Answer ℕ} {after : Octets} →
-        (answer ≡ written (composing kind id specifier count t source (length out)))
-        × (after ≡ outputAfter out (composing kind id specifier count t source (length out))) → Outcome answer after
+    pub composes : {named : ℕ} → accepted named ≡ said kind (code .first) count t → {answer : Answer ℕ} {after : Octets} →
+        (answer ≡ written (composing kind id code count t source (length out)))
+        × (after ≡ outputAfter out (composing kind id code count t source (length out))) → Outcome answer after
     unfolding writing composing
     composes f p =
-        let e = fits kind id specifier count t source (λ ps. octetsOf kind id specifier ps (length out)) f in
+        let e = fits kind id code count t source (λ ps. octetsOf kind id code ps (length out)) f in
         (p .0 ∙ ap written e, p .1 ∙ ap (outputAfter out) e)
 
-    unchanged : {n d : ℕ} → refused n d ≡ writing kind id specifier count t source (length out) → Outcome (refused n d) out
+    unchanged : {n d : ℕ} → refused n d ≡ writing kind id code count t source (length out) → Outcome (refused n d) out
     unfolding written outputAfter
     unchanged e = (ap written e, ap (outputAfter out) e)
 
-    pub row-refuses : {sizes : Sizes} → accepted sizes ≡ measured kind id count t source → {n d : ℕ} → refused n d ≡ said kind specifier count t →
+    pub row-refuses : {sizes : Sizes} → accepted sizes ≡ measured kind id count t source → {n d : ℕ} → refused n d ≡ said kind (code .first) count t →
         Outcome (refused n d) out
     unfolding writing
-    row-refuses e f = unchanged (refuses kind id specifier count t source (λ ps. octetsOf kind id specifier ps (length out)) e f)
+    row-refuses e f = unchanged (refuses kind id code count t source (λ ps. octetsOf kind id code ps (length out)) e f)
 
     pub measure-refuses : {n d : ℕ} → refused n d ≡ measured kind id count t source → Outcome (refused n d) out
     unfolding writing
-    measure-refuses e = unchanged (not-measured kind id specifier count t source (λ ps. octetsOf kind id specifier ps (length out)) e)
+    measure-refuses e = unchanged (not-measured kind id code count t source (λ ps. octetsOf kind id code ps (length out)) e)
 
     -- what is not the first case of the engine's answer is a refusal
     pub row-answers : {sizes : Sizes} → accepted sizes ≡ measured kind id count t source → (j : J.Judged) → OneOf (1 ∷ 2 ∷ 3 ∷ 4 ∷ []) (tagOf Judged.the-type j) →
-        judgedIn j ≡ said kind specifier count t → Outcome (judgedIn j) out
+        judgedIn j ≡ said kind (code .first) count t → Outcome (judgedIn j) out
     row-answers e (JV.Fits named) k f = absurd (⊎-elim (λ z. omega arith) (⊎-elim (λ z. omega arith) (⊎-elim (λ z. omega arith) (λ z. omega arith))) k)
     row-answers e JV.NoRow k f = row-refuses e f
     row-answers e (JV.Again entry) k f = row-refuses e f

@@ -2,13 +2,14 @@
 use Prim.Native.Nat.{ℕ}
 use Rattle.element.specs.Answer.{Answer}
 use Rattle.component.specs.declared.Id as D
+use Rattle.component.specs.declared.Code as E
 use mathlib.Core.List.{List}
 use Rattle.element.specs.Octets.{Octets}
 
 pub record Told : Type 0 where
   pub kind : ℕ
   pub id : D.Id
-  pub specifier : ℕ
+  pub code : E.Code
   pub all : ℕ
   pub named : ℕ
   pub other : ℕ
@@ -28,14 +29,14 @@ Reader = (octets : Octets) (specifier : ℕ) (table : List ℕ) → Read
 pub record Order : Type 0 where
   pub kind : ℕ
   pub id : D.Id
-  pub specifier : ℕ
+  pub code : E.Code
   pub count : ℕ
   pub table : List ℕ
   pub source : Octets
 
-abbrev pub order : (kind : ℕ) (id : D.Id) (specifier count : ℕ) (table : List ℕ) (source : Octets) → Order
-order kind id specifier count table source =
-    record { kind = kind; id = id; specifier = specifier; count = count; table = table; source = source }
+abbrev pub order : (kind : ℕ) (id : D.Id) (code : E.Code) (count : ℕ) (table : List ℕ) (source : Octets) → Order
+order kind id code count table source =
+    record { kind = kind; id = id; code = code; count = count; table = table; source = source }
 
 pub record Wrote : Type 0 where
   pub answer : Answer ℕ

@@ -1,5 +1,6 @@
 -- The starred charts of the paper in one table; and, that no row is empty, for each row a component that it accepts,
--- and one for each of 11 to 14 that it can refuse with. Each with what is told and what the lent table then holds.
+-- and one for each of 11 to 14 that it can refuse with; and, for a type without rows, one that is accepted and one for
+-- each way its ID and its code can be refused. Each with what is told and what the lent table then holds.
 use Prim.Native.Nat.{ℕ}
 use mathlib.Core.List.{List, [], _∷_, _++_}
 use lib.ListN.{length, drop, replicate}
@@ -18,16 +19,28 @@ pub record Chart : Type 0 where
 abbrev pub zeros : List ℕ
 zeros = replicate 320 0
 
--- told of a component with the ID octet 05
-abbrev said : (kind specifier all named other : ℕ) → Told
-said kind specifier all named other =
+-- told of a component with the ID octet 05 and a code of one octet
+abbrev said : (kind code all named other : ℕ) → Told
+said kind code all named other =
     record {
       kind = kind;
       id = record { count = 1; first = 5; second = 0 };
-      specifier = specifier;
+      code = record { first = code; second = 0 };
       all = all;
       named = named;
       other = other;
+    }
+
+-- told of a REJECT with no ID octet
+abbrev rejected : (first second all : ℕ) → Told
+rejected first second all =
+    record {
+      kind = 0xEC;
+      id = record { count = 0; first = 0; second = 0 };
+      code = record { first = first; second = second };
+      all = all;
+      named = 0;
+      other = all;
     }
 
 -- accepted, with these numbers in front of the table
@@ -182,4 +195,28 @@ living =
     ∷ refuses 0 (0xE9 ∷ 0x09 ∷ 0xCF ∷ 0x01 ∷ 0x05 ∷ 0xD1 ∷ 0x02 ∷ 0x09 ∷ 0x00 ∷ 0xF2 ∷ 0x00 ∷ []) 11 8
     -- no such RESULT: 11
     ∷ refuses 0 (0xEA ∷ 0x05 ∷ 0xCF ∷ 0x01 ∷ 0x05 ∷ 0xF2 ∷ 0x00 ∷ []) 11 0
+    -- ERROR: accepted, whatever is handed in
+    ∷ takes 0 (0xEB ∷ 0x08 ∷ 0xCF ∷ 0x01 ∷ 0x05 ∷ 0xD4 ∷ 0x01 ∷ 0x81 ∷ 0xF2 ∷ 0x00 ∷ []) (said 0xEB 0x81 0 0 0) []
+    -- ERROR: what a row would refuse, twice, with a specifier that has a row
+    ∷ takes 4 (0xEB ∷ 0x0C ∷ 0xCF ∷ 0x01 ∷ 0x05 ∷ 0xD4 ∷ 0x01 ∷ 0x85 ∷ 0xF2 ∷ 0x04 ∷ 0x85 ∷ 0x00 ∷ 0x85 ∷ 0x00 ∷ [])
+    (said 0xEB 0x85 2 0 2) (5 ∷ 0 ∷ 12 ∷ 0 ∷ 10 ∷ 5 ∷ 0 ∷ 14 ∷ 0 ∷ 12 ∷ [])
+    -- ERROR: no ID octet
+    ∷ refuses 0 (0xEB ∷ 0x07 ∷ 0xCF ∷ 0x00 ∷ 0xD4 ∷ 0x01 ∷ 0x81 ∷ 0xF2 ∷ 0x00 ∷ []) 6 2
+    -- ERROR: a REJECT's element
+    ∷ refuses 0 (0xEB ∷ 0x08 ∷ 0xCF ∷ 0x01 ∷ 0x05 ∷ 0xD5 ∷ 0x01 ∷ 0x81 ∷ 0xF2 ∷ 0x00 ∷ []) 21 5
+    -- ERROR: two octets of code
+    ∷ refuses 0 (0xEB ∷ 0x09 ∷ 0xCF ∷ 0x01 ∷ 0x05 ∷ 0xD4 ∷ 0x02 ∷ 0x81 ∷ 0x81 ∷ 0xF2 ∷ 0x00 ∷ []) 21 5
+    -- ERROR: ended where its element is wanted
+    ∷ refuses 0 (0xEB ∷ 0x03 ∷ 0xCF ∷ 0x01 ∷ 0x05 ∷ []) 5 5
+    -- REJECT: accepted
+    ∷ takes 0 (0xEC ∷ 0x08 ∷ 0xCF ∷ 0x00 ∷ 0xD5 ∷ 0x02 ∷ 0x01 ∷ 0x01 ∷ 0xF2 ∷ 0x00 ∷ []) (rejected 0x01 0x01 0) []
+    -- REJECT: the first problem octet is told first
+    ∷ takes 13 (0xEC ∷ 0x0A ∷ 0xCF ∷ 0x00 ∷ 0xD5 ∷ 0x02 ∷ 0x02 ∷ 0x03 ∷ 0xF2 ∷ 0x02 ∷ 0x89 ∷ 0x00 ∷ [])
+    (rejected 0x02 0x03 1) (9 ∷ 0 ∷ 12 ∷ 0 ∷ 10 ∷ [])
+    -- REJECT: two ID octets
+    ∷ refuses 0 (0xEC ∷ 0x0A ∷ 0xCF ∷ 0x02 ∷ 0x05 ∷ 0x06 ∷ 0xD5 ∷ 0x02 ∷ 0x01 ∷ 0x01 ∷ 0xF2 ∷ 0x00 ∷ []) 6 2
+    -- REJECT: an ERROR's element
+    ∷ refuses 0 (0xEC ∷ 0x08 ∷ 0xCF ∷ 0x00 ∷ 0xD4 ∷ 0x02 ∷ 0x01 ∷ 0x01 ∷ 0xF2 ∷ 0x00 ∷ []) 21 4
+    -- REJECT: one octet of code
+    ∷ refuses 0 (0xEC ∷ 0x07 ∷ 0xCF ∷ 0x00 ∷ 0xD5 ∷ 0x01 ∷ 0x01 ∷ 0xF2 ∷ 0x00 ∷ []) 21 4
     ∷ []

@@ -6,7 +6,7 @@ use mathlib.Core.Path.{_≡_}
 use mathlib.Core.Bool.{Bool, false, not}
 use mathlib.Core.List.{List, [], _∷_, _++_, map, List·Memᴰ}
 use mathlib.Core.Logic.{_⊎_}
-use lib.ListN.{length, take, drop}
+use lib.ListN.{length, getD, take, drop}
 use Rattle.element.specs.Octets.{Octets, AreOctets, if}
 use Rattle.element.specs.Answer.{accepted, refused}
 use Rattle.component.specs.Table.{
@@ -20,29 +20,47 @@ use Rattle.component.specs.Table.{
   parametersFrom,
   idOf,
   idOctets,
+  codeOf,
   componentOf,
 }
-use Rattle.component.specs.Grammar.{Parameter, Laid, Component, parametersOf, kindOf, identifierOf, specifierOf}
-use Rattle.component.specs.Faults.{Faulty, LaidOut, Typed, Allowed}
+use Rattle.component.specs.declared.Code as E
+use Rattle.component.specs.Types.{Typed, Allowed}
+use Rattle.component.specs.Grammar.{Parameter, Laid, Component}
+use Rattle.component.specs.Faults.{Faulty, LaidOut}
 use Rattle.component.specs.Composed.{composed}
-use Rattle.component.specs.Standing.{Shows, Pairwise, standing, specifierPlace}
+use Rattle.component.specs.Standing.{Shows, Pairwise, standing, operationAt}
 use Rattle.component.specs.Needed.{octetsNeeded}
 use Rattle.operation.specs.Row.{Row, key, named as names}
 use Rattle.operation.specs.Rows.{operations}
 use Rattle.operation.specs.Book.{Fits}
 use Rattle.operation.specs.Faults.{RowFault}
 use Rattle.operation.specs.Items.{itemOf, itemsOf}
+use Rattle.operation.specs.Codes.{operationOf, toldCode, heeded}
 use Rattle.operation.specs.Caller.{Told, Read, read, Reader, Order, order, wrote, Writer}
 
 abbrev pub keyOf : Parameter → ℕ
 keyOf p = key (p .number) (p .form)
 
--- the book has a row for this operation and component type
-abbrev pub RowFor : (kind specifier : ℕ) → Row → Type 0
-RowFor kind specifier row = List·Memᴰ (record { kind = kind; specifier = specifier; row = row }) operations
+-- the book has a parameter table for each operation's INVOKE and RESULT
+abbrev pub Rowed : (kind : ℕ) → Type 0
+Rowed kind = (kind ≡ 0xE9) ⊎ (kind ≡ 0xEA)
 
-abbrev pub NoRow : (kind specifier : ℕ) → Type 0
-NoRow kind specifier = (row : Row) → RowFor kind specifier row → ⊥
+-- the row of this operation and component type; an ERROR and a REJECT have the row of no line: it names nothing and asks
+-- for nothing, so that the layout is the whole verdict
+pub data RowFor (kind operation : ℕ) : Row → Type 0 where
+  listed : {row : Row} → Rowed kind →
+      List·Memᴰ (record { kind = kind; specifier = operation; row = row }) operations → RowFor kind operation row
+  unasked : (Rowed kind → ⊥) → RowFor kind operation []
+
+abbrev pub NoRow : (kind operation : ℕ) → Type 0
+NoRow kind operation = (row : Row) → RowFor kind operation row → ⊥
+
+-- the operation of a component, and the code that is told of it
+abbrev pub itsOperation : Component → (given : ℕ) → ℕ
+itsOperation c given = operationOf (c .kind) (getD (c .code) 0 0) given
+
+abbrev pub itsCode : Component → (given : ℕ) → E.Code
+itsCode c given = codeOf (toldCode (c .kind) (c .code) given)
 
 -- how many keys pass a test
 unfoldable pub tally : (ℕ → Bool) → List ℕ → ℕ
@@ -54,29 +72,29 @@ tally test (k ∷ ks) = if (test k) (1 + tally test ks) (tally test ks)
 pub data ReaderRefuses (s : Octets) (given : ℕ) (t : List ℕ) : (number detail : ℕ) → Type 0 where
   table : length t < tableSize → ReaderRefuses s given t 1 0
   fault : {n d : ℕ} → tableSize ≤ length t → Faulty n d s → ReaderRefuses s given t n d
-  no-row : {c : Component} → tableSize ≤ length t → (h : LaidOut c s) → NoRow (kindOf c) (specifierOf c given) →
-      ReaderRefuses s given t 11 (specifierPlace (h .laid))
+  no-row : {c : Component} → tableSize ≤ length t → (h : LaidOut c s) → NoRow (c .kind) (itsOperation c given) →
+      ReaderRefuses s given t 11 (operationAt (h .laid))
   misfit : {c : Component} {row : Row} {n d : ℕ} → tableSize ≤ length t → (h : LaidOut c s) →
-      RowFor (kindOf c) (specifierOf c given) row → RowFault row (map itemOf (standing (h .laid))) n d →
+      RowFor (c .kind) (itsOperation c given) row → RowFault row (map itemOf (standing (h .laid))) n d →
       ReaderRefuses s given t n d
 
 -- laid out within the limits, with a row, and as the book's table has it
 pub record Right (s : Octets) (given : ℕ) (t : List ℕ) (c : Component) (row : Row) : Type 0 where
   pub enough : tableSize ≤ length t
   pub laid-out : LaidOut c s
-  pub has-row : RowFor (kindOf c) (specifierOf c given) row
-  pub fits : Fits row (map keyOf (parametersOf c))
+  pub has-row : RowFor (c .kind) (itsOperation c given) row
+  pub fits : Fits row (map keyOf (c .parameters))
 
 -- what is told of it: the counts are those that the row makes
 abbrev pub tells : (given : ℕ) → Component → Row → Told
 tells given c row =
     record {
-      kind = kindOf c;
-      id = idOf (identifierOf c);
-      specifier = specifierOf c given;
-      all = length (parametersOf c);
-      named = tally (names row) (map keyOf (parametersOf c));
-      other = tally (λ k. not (names row k)) (map keyOf (parametersOf c));
+      kind = c .kind;
+      id = idOf (c .id);
+      code = itsCode c given;
+      all = length (c .parameters);
+      named = tally (names row) (map keyOf (c .parameters));
+      other = tally (λ k. not (names row k)) (map keyOf (c .parameters));
     }
 
 -- ---- the writer: 3, 6, 10, 1, 16, 15, 11, the faults of the run against its row, each parameter marked by its entry,
@@ -91,7 +109,7 @@ abbrev pub needed : Order → ℕ
 needed o = octetsNeeded (o .kind) (o .id .count) (ordered o)
 
 abbrev pub made : Order → Component
-made o = componentOf (o .kind) (o .id) (o .specifier) (ordered o)
+made o = componentOf (o .kind) (o .id) (o .code) (ordered o)
 
 abbrev pub octetsFor : Order → Octets
 octetsFor o = composed (made o)
@@ -116,15 +134,15 @@ pub data WriterRefuses (o : Order) (out : Octets) : (number detail : ℕ) → Ty
   no-entry : {i : ℕ} → Held o → i < o .count → ((j : ℕ) → j < i → Stands o j) → (Stands o i → ⊥) →
       WriterRefuses o out 16 i
   too-long : Held o → ((i : ℕ) → i < o .count → Stands o i) → 4096 < needed o → WriterRefuses o out 15 (needed o)
-  no-row : Ready o → NoRow (o .kind) (o .specifier) → WriterRefuses o out 11 0
-  misfit : {row : Row} {n d : ℕ} → Ready o → RowFor (o .kind) (o .specifier) row →
+  no-row : Ready o → NoRow (o .kind) (o .code .first) → WriterRefuses o out 11 0
+  misfit : {row : Row} {n d : ℕ} → Ready o → RowFor (o .kind) (o .code .first) row →
       RowFault row (itemsOf 0 (ordered o)) n d → WriterRefuses o out n d
-  no-room : {row : Row} → Ready o → RowFor (o .kind) (o .specifier) row → Fits row (map keyOf (ordered o)) →
+  no-room : {row : Row} → Ready o → RowFor (o .kind) (o .code .first) row → Fits row (map keyOf (ordered o)) →
       length out < needed o → WriterRefuses o out 17 (needed o)
 
 pub record Writable (o : Order) (out : Octets) (row : Row) : Type 0 where
   pub ready : Ready o
-  pub has-row : RowFor (o .kind) (o .specifier) row
+  pub has-row : RowFor (o .kind) (o .code .first) row
   pub fits : Fits row (map keyOf (ordered o))
   pub room : needed o ≤ length out
 
@@ -137,15 +155,16 @@ pub record Demand1 (r : Reader) (w : Writer) : Type 0 where
 
 -- ---- demand 2: accepted is exactly what is right; reading and writing undo one another
 
--- what was ordered is read again from its octets: type, ID octets, specifier, identifiers and contents
+-- what was ordered is read again from its octets: type, ID octets, code, identifiers and contents; a RESULT by the
+-- specifier that it was ordered with
 pub record ReadAgain (r : Reader) (o : Order) (s : Octets) (t : List ℕ) : Type 0 where
   pub told : Told
-  pub accepts : r s (o .specifier) t .answer ≡ accepted told
+  pub accepts : r s (o .code .first) t .answer ≡ accepted told
   pub kind : told .kind ≡ o .kind
   pub id : told .id ≡ idOf (idOctets (o .id))
-  pub specifier : told .specifier ≡ o .specifier
+  pub code : told .code ≡ heeded (o .kind) (o .code)
   pub count : told .all ≡ o .count
-  pub parameters : parametersFrom 0 (told .all) (r s (o .specifier) t .table) s ≡ ordered o
+  pub parameters : parametersFrom 0 (told .all) (r s (o .code .first) t .table) s ≡ ordered o
 
 pub record Demand2 (r : Reader) (w : Writer) : Type 0 where
   pub reader : (s : Octets) (given : ℕ) (t : List ℕ) {x : Told} → AreOctets s → r s given t .answer ≡ accepted x →
@@ -156,18 +175,18 @@ pub record Demand2 (r : Reader) (w : Writer) : Type 0 where
   -- each entry of the table shows its parameter: the fifth number is the place of the identifier
   pub placed : (s : Octets) (given : ℕ) (t : List ℕ) {c : Component} {row : Row} → AreOctets s →
       Right s given t c row →
-      Pairwise (Shows s) (heldFrom 0 (length (parametersOf c)) (r s given t .table)) (parametersOf c)
+      Pairwise (Shows s) (heldFrom 0 (length (c .parameters)) (r s given t .table)) (c .parameters)
   pub writer : (o : Order) (out : Octets) {n : ℕ} → w o out .answer ≡ accepted n → (row : Row) × Writable o out row
   pub written : (o : Order) (out : Octets) {row : Row} → Writable o out row →
       w o out ≡ wrote (accepted (length (octetsFor o))) (octetsFor o ++ drop (length (octetsFor o)) out)
   -- writing what was read returns the same octets
   pub read-then-write : (s : Octets) (given : ℕ) (t : List ℕ) (out : Octets) {x : Told} → AreOctets s →
       r s given t .answer ≡ accepted x → length s ≤ length out →
-      w (order (x .kind) (x .id) (x .specifier) (x .all) (r s given t .table) s) out
+      w (order (x .kind) (x .id) (x .code) (x .all) (r s given t .table) s) out
       ≡ wrote (accepted (length s)) (s ++ drop (length s) out)
   -- reading what was written returns what was ordered
-  pub write-then-read : (o : Order) (out : Octets) (t : List ℕ) {n : ℕ} → o .specifier < 256 →
-      w o out .answer ≡ accepted n → tableSize ≤ length t → AreOctets (take n (w o out .output)) →
+  pub write-then-read : (o : Order) (out : Octets) (t : List ℕ) {n : ℕ} → w o out .answer ≡ accepted n →
+      tableSize ≤ length t → AreOctets (take n (w o out .output)) →
       ReadAgain r o (take n (w o out .output)) t
 
 -- ---- demand 3: what a row does not name changes nothing of its verdict
@@ -203,7 +222,7 @@ joined a n =
     record {
       kind = a .kind;
       id = a .id;
-      specifier = a .specifier;
+      code = a .code;
       all = a .all + n;
       named = a .named;
       other = a .other + n;
@@ -211,18 +230,18 @@ joined a n =
 
 -- what is said of the newer component, beside what is said of the older
 pub data Truthful {c d : Component} {s u : Octets} (x : Laid c s) (y : Laid d u) {row : Row}
-    (j : Joined row (parametersOf c) (parametersOf d)) (t : List ℕ) : Read → Read → Type 0 where
+    (j : Joined row (c .parameters) (d .parameters)) (t : List ℕ) : Read → Read → Type 0 where
   both-accepted : (a : Told) → Truthful x y j t (read (accepted a) (tableWith (standing x) t))
       (read (accepted (joined a (newcomers j))) (tableWith (standing y) t))
   same-missing : (number : ℕ) → Truthful x y j t (read (refused 13 number) t) (read (refused 13 number) t)
-  same-parameter : (n i : ℕ) → (n ≡ 12) ⊎ (n ≡ 14) → i < length (parametersOf c) → Truthful x y j t
+  same-parameter : (n i : ℕ) → (n ≡ 12) ⊎ (n ≡ 14) → i < length (c .parameters) → Truthful x y j t
       (read (refused n (placeIn (standing x) i)) t) (read (refused n (placeIn (standing y) (moved j i))) t)
 
 pub record Demand3 (r : Reader) : Type 0 where
   pub truthful : (given : ℕ) (c d : Component) (s u : Octets) (t : List ℕ) {row : Row} → AreOctets s → AreOctets u →
-      tableSize ≤ length t → (h : LaidOut c s) (k : LaidOut d u) → kindOf d ≡ kindOf c →
-      identifierOf d ≡ identifierOf c → specifierOf d given ≡ specifierOf c given →
-      RowFor (kindOf c) (specifierOf c given) row → (j : Joined row (parametersOf c) (parametersOf d)) →
+      tableSize ≤ length t → (h : LaidOut c s) (k : LaidOut d u) → d .kind ≡ c .kind →
+      d .id ≡ c .id → d .code ≡ c .code →
+      RowFor (c .kind) (itsOperation c given) row → (j : Joined row (c .parameters) (d .parameters)) →
       Truthful (h .laid) (k .laid) j t (r s given t) (r u given t)
 
 pub record Demands (r : Reader) (w : Writer) : Type 0 where

@@ -14,7 +14,7 @@ shownOn n x =
     record {
       kind = x .kind;
       id = x .id;
-      specifier = x .specifier;
+      code = x .code;
       entries = map (entryOn n) (x .entries);
       named = x .named;
       other = x .other;

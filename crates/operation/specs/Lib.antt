@@ -3,6 +3,7 @@ pub mod Rows
 pub mod Book
 pub mod Items
 pub mod Faults
+pub mod Codes
 pub mod Caller
 pub mod Demands
 pub mod Judge

@@ -5,7 +5,7 @@ use Prim.Native.Nat.{ℕ}
 use lib.ListN.{length}
 use Rattle.element.specs.Octets.{Octets, AreOctets}
 use Rattle.element.specs.Answer.{Answer}
-use Rattle.component.specs.Composing.{written, outputAfter}
+use Rattle.element.specs.Output.{written, outputAfter}
 use Rattle.operation.specs.Reading.{reading, tableAfter}
 use Rattle.operation.specs.Writing.{writing}
 use Rattle.operation.specs.Told.{told}
@@ -16,7 +16,7 @@ abbrev pub reader : Reader
 reader s given t = read (told (reading s given (length t))) (tableAfter t (reading s given (length t)))
 
 abbrev pub written-as : Order → (room : ℕ) → Answer Octets
-written-as o room = writing (o .kind) (o .id) (o .specifier) (o .count) (o .table) (o .source) room
+written-as o room = writing (o .kind) (o .id) (o .code) (o .count) (o .table) (o .source) room
 
 abbrev pub writer : Writer
 writer o out = wrote (written (written-as o (length out))) (outputAfter out (written-as o (length out)))

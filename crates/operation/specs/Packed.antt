@@ -1,6 +1,6 @@
 -- An answer as one number of eight octets, the least significant first: put together for C, and taken apart as the
 -- functions of include/roadquill.h do it.
-use Prim.Native.Nat.{ℕ, zero, suc, _+_, _*_, _-_, _/_, _%_, _<_}
+use Prim.Native.Nat.{ℕ, zero, suc, _+_, _*_, _-_, _/_, _%_, _<_, _≤_}
 use mathlib.Core.Path.{_≡_}
 use mathlib.Core.List.{List, [], _∷_}
 use lib.ListN.{getD}
@@ -19,11 +19,15 @@ octets (x ∷ xs) = x + 256 * octets xs
 abbrev pub numberWith : (number detail : ℕ) → ℕ
 numberWith number detail = number + 256 * detail
 
+-- the counts, of ID octets and of all and of named parameters, in octets 6 and 7
+abbrev pub countsOf : (id all named : ℕ) → ℕ
+countsOf id all named = 16384 * id + 128 * all + named
+
 abbrev pub toldOctets : Told → Octets
-toldOctets x = 0 ∷ x .kind ∷ x .id .count ∷ x .id .first ∷ x .id .second ∷ x .specifier ∷ x .all ∷ x .named ∷ []
+toldOctets x = 0 ∷ x .kind ∷ x .id .first ∷ x .id .second ∷ x .code .first ∷ x .code .second ∷ []
 
 unfoldable pub packedReading : Answer Told → ℕ
-packedReading (accepted x) = octets (toldOctets x)
+packedReading (accepted x) = octets (toldOctets x) + 281474976710656 * countsOf (x .id .count) (x .all) (x .named)
 packedReading (refused n d) = numberWith n d
 
 unfoldable pub packedWriting : Answer ℕ → ℕ
@@ -39,15 +43,19 @@ octetAt r (suc i) = octetAt (r / 256) i
 abbrev pub detailIn : ℕ → ℕ
 detailIn r = r / 256 % 4294967296
 
+-- octets 6 and 7
+abbrev pub countsIn : ℕ → ℕ
+countsIn r = r / 281474976710656
+
 abbrev pub toldIn : ℕ → Told
 toldIn r =
     record {
       kind = octetAt r 1;
-      id = record { count = octetAt r 2; first = octetAt r 3; second = octetAt r 4 };
-      specifier = octetAt r 5;
-      all = octetAt r 6;
-      named = octetAt r 7;
-      other = octetAt r 6 - octetAt r 7;
+      id = record { count = countsIn r / 16384; first = octetAt r 2; second = octetAt r 3 };
+      code = record { first = octetAt r 4; second = octetAt r 5 };
+      all = countsIn r / 128 % 128;
+      named = countsIn r % 128;
+      other = countsIn r / 128 % 128 - countsIn r % 128;
     }
 
 unfoldable pub unpackedReading : ℕ → Answer Told
@@ -56,14 +64,16 @@ unpackedReading r = if (eqb (octetAt r 0) 0) (accepted (toldIn r)) (refused (oct
 unfoldable pub unpackedWriting : ℕ → Answer ℕ
 unpackedWriting r = if (eqb (octetAt r 0) 0) (accepted (detailIn r)) (refused (octetAt r 0) (detailIn r))
 
--- ---- what fits: an octet for each number, and four for a detail or a count; a refusal's number is not 0
+-- ---- what fits: an octet for each number, two for the counts, and four for a detail or a count of octets; a refusal's
+-- number is not 0
 pub record RefusalFits (number detail : ℕ) : Type 0 where
   pub some : 0 < number
   pub octet : number < 256
   pub four : detail < 4294967296
 
 abbrev pub ReadingFits : Answer Told → Type 0
-ReadingFits (accepted x) = AreOctets (toldOctets x) × (x .named + x .other ≡ x .all)
+ReadingFits (accepted x) =
+    AreOctets (toldOctets x) × (x .id .count ≤ 2) × (x .all ≤ 64) × (x .named + x .other ≡ x .all)
 ReadingFits (refused n d) = RefusalFits n d
 
 abbrev pub WritingFits : Answer ℕ → Type 0

@@ -2,7 +2,7 @@
 use Prim.Native.Nat.{ℕ}
 use lib.ListN.{length}
 use Rattle.element.specs.Answer.{Answer, accepted, refused, _>>=_}
-use Rattle.component.specs.Table.{idOf}
+use Rattle.component.specs.Table.{idOf, codeOf}
 use Rattle.operation.specs.declared.Reading as R
 use Rattle.operation.specs.declared.Reading.the-variants as RV
 use Rattle.operation.specs.declared.Writing as W
@@ -15,15 +15,15 @@ unfoldable pub told : Answer Shown → Answer Told
 told a = a >>= λ x. accepted (record {
   kind = x .kind;
   id = idOf (x .id);
-  specifier = x .specifier;
+  code = codeOf (x .code);
   all = length (x .entries);
   named = x .named;
   other = x .other;
 })
 
 abbrev pub answerIn : R.Reading → Answer Told
-answerIn (RV.Accepted kind id specifier all named other) =
-    accepted (record { kind = kind; id = id; specifier = specifier; all = all; named = named; other = other })
+answerIn (RV.Accepted kind id code all named other) =
+    accepted (record { kind = kind; id = id; code = code; all = all; named = named; other = other })
 answerIn (RV.Refused n d) = refused n d
 
 abbrev pub writtenIn : W.Writing → Answer ℕ

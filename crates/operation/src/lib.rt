@@ -3,7 +3,9 @@ mod engine;
 mod names;
 mod rows;
 mod sheet;
+mod summary;
 
+use component::Code;
 use component::Count;
 use component::Head;
 use component::Heading;
@@ -15,18 +17,24 @@ use engine::wide;
 use rows::judge_operation;
 use sheet::copy_numbers;
 use sheet::parameters_from;
+pub use summary::packed;
+pub use summary::summary_from;
 ghost use mathlib.Core.Path.{_≡_};
-ghost use Prim.Native.Nat.{_*_, _<_, _≤_};
+ghost use Prim.Native.Nat.{_+_, _*_, _<_, _≤_};
 ghost use lib.ListN.{length};
-ghost use Rattle.component.specs.Table.{tableSize, held};
-ghost use Rattle.component.specs.Told.{countIn};
+ghost use Rattle.element.specs.Octets.{between};
+ghost use Rattle.component.specs.Types.{Typed};
+ghost use Rattle.component.specs.Table.{tableSize, held, idOf, codeOf};
+ghost use Rattle.component.specs.Layout.{codeOctets, operationPlace};
+ghost use Rattle.component.specs.Told.{countIn, headSaid};
 ghost use Rattle.operation.specs.inner.Coded.{judgedIn, said};
 ghost use Rattle.operation.specs.inner.Finishing.{
-  specifierFor,
+  Headed,
   Pointing,
   finished,
   tableFinished,
 };
+ghost use Rattle.operation.specs.Codes.{toldCode};
 ghost use Rattle.operation.specs.Caller.{order};
 ghost use Rattle.operation.specs.Reading.{readingAt, tableAfter};
 ghost use Rattle.operation.specs.Writing.{weighing};
@@ -47,7 +55,7 @@ pub enum Reading {
     Accepted {
         kind: u8,
         id: Id,
-        specifier: u8,
+        code: Code,
         all: usize,
         named: usize,
         other: usize,
@@ -84,15 +92,58 @@ enum Missing {
 
 // ---- reader
 
-// The specifier of a reading: an INVOKE carries its own, a RESULT has the one that is handed in.
-fn specifier_of(heading: Heading, given: u8) -> u8
-    ensures { λ r. ⌜ r ≡ specifierFor heading given ⌝ }
+// The octets of the component ID.
+fn id_of(octets: &[u8], heading: Heading) -> Id
+    requires { ⌜ (heading .id ≤ heading .behind) × (heading .behind ≤ heading .id + 2)
+        × (heading .behind ≤ length (now octets)) × (length (now octets) ≤ 4096) ⌝ }
+    ensures { λ r. ⌜ r ≡ idOf (between (heading .id) (heading .behind) (now (octets .entry))) ⌝ }
+{
+    let start = heading.id;
+    let end = heading.behind;
+    if end == start + 1 {
+        return Id {
+            count: 1,
+            first: octets[start],
+            second: 0,
+        };
+    }
+    if end == start {
+        return Id {
+            count: 0,
+            first: 0,
+            second: 0,
+        };
+    }
+    Id {
+        count: 2,
+        first: octets[start],
+        second: octets[start + 1],
+    }
+}
+
+// The code that is told: a RESULT's is the specifier that is handed in, and a REJECT alone has a second octet.
+fn code_of(octets: &[u8], heading: Heading, given: u8) -> Code
+    requires { ⌜ Typed (heading .kind) × (heading .code + 1 < length (now octets)) × (length (now octets) ≤ 4096) ⌝ }
+    ensures { λ r. ⌜ r ≡ codeOf (toldCode (heading .kind)
+        (codeOctets (now (octets .entry)) (headSaid heading)) given) ⌝ }
+{
+    let kind = heading.kind;
+    let at = heading.code;
+    let first = if kind == 0xEA { given } else { octets[at] };
+    let second = if kind == 0xEC { octets[at + 1] } else { 0 };
+    Code { first, second }
+}
+
+// Where the operation of a component stands, 0 but in an INVOKE.
+fn operation_place(heading: Heading) -> u32
+    requires { ⌜ heading .code ≤ 4096 ⌝ }
+    ensures { λ r. ⌜ r ≡ operationPlace (headSaid heading) ⌝ }
 {
     let kind = heading.kind;
     if kind == 0xE9 {
-        return heading.specifier;
+        return heading.code as u32;
     }
-    given
+    0
 }
 
 // The place of an entry of the sheet.
@@ -105,26 +156,27 @@ fn place_of(sheet: &[u16], entry: usize) -> u32
 
 // What the row says of the parameters: where all fits they are shown, else a refusal points into the component.
 fn finish(
+    octets: &[u8],
     heading: Heading,
-    specifier: u8,
+    given: u8,
     count: usize,
     judged: Judged,
     sheet: &[u16],
     table: &mut [u16],
 ) -> Reading
-    requires { ⌜ (count ≤ 64) × (tableSize ≤ length (now sheet)) × (tableSize ≤ length (now table))
-        × (heading .operation ≤ 4096) × Pointing count judged ⌝ }
-    ensures { λ r. ⌜ (answerIn r ≡ finished heading specifier count (now (sheet .entry)) (judgedIn judged))
+    requires { ⌜ Headed (now octets) heading × (count ≤ 64) × (tableSize ≤ length (now sheet))
+        × (tableSize ≤ length (now table)) × Pointing count judged ⌝ }
+    ensures { λ r. ⌜ (answerIn r ≡
+        finished (now (octets .entry)) (headSaid heading) given count (now (sheet .entry)) (judgedIn judged))
         × (now (table .exit) ≡ tableFinished count (now (sheet .entry)) (now (table .entry)) (judgedIn judged)) ⌝ }
 {
     match judged {
         Judged::Fits(named) => {
             copy_numbers(sheet, table, WIDTH * count);
-            let id = heading.id;
             Reading::Accepted {
                 kind: heading.kind,
-                id,
-                specifier,
+                id: id_of(octets, heading),
+                code: code_of(octets, heading, given),
                 all: count,
                 named,
                 other: count - named,
@@ -132,7 +184,7 @@ fn finish(
         }
         Judged::NoRow => Reading::Refused {
             number: 11,
-            detail: heading.operation as u32,
+            detail: operation_place(heading),
         },
         Judged::Again(entry) => Reading::Refused {
             number: 12,
@@ -150,7 +202,8 @@ fn finish(
 }
 
 // Reads the component that stands from `from` to the end of the octets. A RESULT is of the operation whose specifier is
-// handed in; an entry for each parameter goes to the lent table, which a refusal leaves as it was.
+// handed in, which plays no part in the others; an entry for each parameter goes to the lent table, which a refusal
+// leaves as it was.
 pub fn read_from(octets: &[u8], from: usize, specifier: u8, table: &mut [u16]) -> Reading
     ensures { λ r. ⌜ (answerIn r ≡ told (readingAt (now (octets .entry)) from specifier (length (now (table .entry)))))
         × (now (table .exit) ≡ tableAfter (now (table .entry))
@@ -168,9 +221,11 @@ pub fn read_from(octets: &[u8], from: usize, specifier: u8, table: &mut [u16]) -
             match parameters_from(octets, heading.set, &mut sheet) {
                 Count::Of(count) => {
                     let kind = heading.kind;
-                    let own = specifier_of(heading, specifier);
-                    let judged = judge_operation(kind, own, &sheet, count);
-                    finish(heading, own, count, judged, &sheet, table)
+                    let at = heading.code;
+                    // an INVOKE's own code says its operation
+                    let operation = if kind == 0xE9 { octets[at] } else { specifier };
+                    let judged = judge_operation(kind, operation, &sheet, count);
+                    finish(octets, heading, specifier, count, judged, &sheet, table)
                 }
                 Count::Refused { number, detail } => Reading::Refused { number, detail },
             }
@@ -229,15 +284,15 @@ fn row_answer(judged: Judged) -> Writing
 }
 
 // The octets that a component takes: all of the writer's refusals but 17, which needs the output.
-pub fn weigh(kind: u8, id: Id, specifier: u8, count: usize, table: &[u16], source: &[u8]) -> Count
-    ensures { λ r. ⌜ countIn r ≡ weighing kind id specifier count (now (table .entry)) (now (source .entry)) ⌝ }
+pub fn weigh(kind: u8, id: Id, code: Code, count: usize, table: &[u16], source: &[u8]) -> Count
+    ensures { λ r. ⌜ countIn r ≡ weighing kind id code count (now (table .entry)) (now (source .entry)) ⌝ }
 {
     match component::measure(kind, id, count, table, source) {
         Measured::Octets {
             whole,
             body: _,
             set: _,
-        } => match row_answer(judge_table(kind, specifier, count, table)) {
+        } => match row_answer(judge_table(kind, code.first, count, table)) {
             Writing::Accepted(_) => Count::Of(whole),
             Writing::Refused { number, detail } => Count::Refused { number, detail },
         },
@@ -251,21 +306,21 @@ pub fn weigh(kind: u8, id: Id, specifier: u8, count: usize, table: &[u16], sourc
 pub fn write(
     kind: u8,
     id: Id,
-    specifier: u8,
+    code: Code,
     count: usize,
     table: &[u16],
     source: &[u8],
     out: &mut [u8],
 ) -> Writing
     ensures { λ r. ⌜ (writtenIn r ≡
-        writer (order kind id specifier count (now (table .entry)) (now (source .entry))) (now (out .entry)) .answer)
+        writer (order kind id code count (now (table .entry)) (now (source .entry))) (now (out .entry)) .answer)
         × (now (out .exit) ≡
-        writer (order kind id specifier count (now (table .entry)) (now (source .entry)))
+        writer (order kind id code count (now (table .entry)) (now (source .entry)))
         (now (out .entry)) .output) ⌝ }
 {
-    let judged = judge_table(kind, specifier, count, table);
+    let judged = judge_table(kind, code.first, count, table);
     if let Judged::Fits(_) = judged {
-        return match component::compose(kind, id, specifier, count, table, source, out) {
+        return match component::compose(kind, id, code, count, table, source, out) {
             Count::Of(octets) => Writing::Accepted(octets),
             Count::Refused { number, detail } => Writing::Refused { number, detail },
         };

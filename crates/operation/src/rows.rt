@@ -259,16 +259,14 @@ fn judge_result(specifier: u8, table: &[u16], count: usize) -> Judged
     }
 }
 
-// What the row of an operation says of `count` entries of a table.
-pub(crate) fn judge_operation(kind: u8, specifier: u8, table: &[u16], count: usize) -> Judged
+// What the row of an operation says of `count` entries of a table; an ERROR and a REJECT have no row, so it says nothing.
+pub(crate) fn judge_operation(kind: u8, operation: u8, table: &[u16], count: usize) -> Judged
     requires { ⌜ (width * count ≤ length (now table)) × (count ≤ 64) ⌝ }
-    ensures { λ r. ⌜ judgedIn r ≡ verdict kind specifier (itemsFrom (now (table .entry)) 0 count) ⌝ }
+    ensures { λ r. ⌜ judgedIn r ≡ verdict kind operation (itemsFrom (now (table .entry)) 0 count) ⌝ }
 {
-    if kind == 0xE9 {
-        return judge_invoke(specifier, table, count);
+    match kind {
+        0xE9 => judge_invoke(operation, table, count),
+        0xEA => judge_result(operation, table, count),
+        _ => Judged::Fits(0),
     }
-    if kind == 0xEA {
-        return judge_result(specifier, table, count);
-    }
-    Judged::NoRow
 }

@@ -1,59 +1,31 @@
-// The reader and the writer for C: numbers and slices alone.
+// The reader, the writer and the names of errors for C: numbers and slices alone.
+use component::Code;
 use component::Id;
-use operation::Reading;
+use errors::Named;
 use operation::Writing;
 ghost use mathlib.Core.Path.{_≡_};
-ghost use mathlib.Core.List.{[], _∷_};
+ghost use lib.ListN.{length};
+ghost use Rattle.element.specs.Output.{written, outputAfter};
+ghost use Rattle.errors.specs.Naming.{naming};
 ghost use Rattle.operation.specs.Caller.{order};
 ghost use Rattle.operation.specs.Model.{reader, writer};
-ghost use Rattle.operation.specs.Packed.{octets, numberWith, packedReading, packedWriting};
-ghost use Rattle.roadquill.specs.Id.{idFrom};
+ghost use Rattle.operation.specs.Packed.{packedReading, packedWriting};
+ghost use Rattle.roadquill.specs.Id.{idFrom, codeFrom};
 
-// An answer's number in octet 0, and what goes with it in octets 1 to 4.
-fn packed(number: u8, detail: u32) -> u64
-    ensures { λ r. ⌜ r ≡ numberWith number detail ⌝ }
-{
-    number as u64 + 256 * (detail as u64)
-}
-
-// What an accepted reading shows in octets 1 to 7: octet 0 is 0.
-fn shown(kind: u8, count: u8, first: u8, second: u8, specifier: u8, all: u8, named: u8) -> u64
-    ensures { λ r. ⌜ r ≡ octets (0 ∷ kind ∷ count ∷ first ∷ second ∷ specifier ∷ all ∷ named ∷ []) ⌝ }
-{
-    let counts = all as u64 + 256 * (named as u64);
-    let behind = second as u64 + 256 * (specifier as u64 + 256 * counts);
-    256 * (kind as u64 + 256 * (count as u64 + 256 * (first as u64 + 256 * behind)))
-}
-
-// Reads a component. Octet 0 of the result is the answer, 0 where it is accepted. Then octets 1 to 7 are the type, the
-// count of ID octets, the first and the second of them, the specifier, and the counts of all and of named parameters;
-// else octets 1 to 4 are the detail. An entry for each parameter goes to the lent table, which a refusal leaves as it
-// was.
+// Reads a component. Octet 0 of the result is the answer, 0 where it is accepted. Then octet 1 is the type, 2 and 3 are
+// the ID octets, 4 and 5 the code, each 0 where absent; 6 and 7 are 16,384 times the count of ID octets, and 128 times
+// the count of all parameters, and the count of named ones. Else octets 1 to 4 are the detail. An entry for each
+// parameter goes to the lent table, which a refusal leaves as it was.
 #[no_mangle]
 pub extern "C" fn roadquill_read(component: &[u8], specifier: u8, table: &mut [u16]) -> u64
     ensures { λ r. ⌜ (r ≡ packedReading (reader (now (component .entry)) specifier (now (table .entry)) .answer))
         × (now (table .exit) ≡ reader (now (component .entry)) specifier (now (table .entry)) .table) ⌝ }
 {
-    match operation::read(component, specifier, table) {
-        Reading::Accepted {
-            kind,
-            id,
-            specifier: own,
-            all,
-            named,
-            other: _,
-        } => {
-            let count = id.count;
-            let first = id.first;
-            let second = id.second;
-            shown(kind, count, first, second, own, all as u8, named as u8)
-        }
-        Reading::Refused { number, detail } => packed(number, detail),
-    }
+    operation::summary_from(component, 0, specifier, table)
 }
 
-// Writes a component from a table of entries and the octets that they point into. Octet 0 of the result is the answer,
-// 0 where it is accepted. Octets 1 to 4 are then the count of octets written, else the detail. Only the octets that are
+// Writes a component from a table of entries and the octets that they point into. The second octet of the code is looked
+// at in a REJECT alone, whose second problem octet it is. Octet 0 of the result is the answer, 0 where it is accepted. Octets 1 to 4 are then the count of octets written, else the detail. Only the octets that are
 // counted change, and on a refusal none.
 #[no_mangle]
 pub extern "C" fn roadquill_write(
@@ -61,15 +33,16 @@ pub extern "C" fn roadquill_write(
     count: u8,
     first: u8,
     second: u8,
-    specifier: u8,
+    code: u8,
+    problem: u8,
     entries: usize,
     table: &[u16],
     source: &[u8],
     output: &mut [u8],
 ) -> u64
-    ensures { λ r. ⌜ (r ≡ packedWriting (writer (order kind (idFrom count first second) specifier entries
+    ensures { λ r. ⌜ (r ≡ packedWriting (writer (order kind (idFrom count first second) (codeFrom code problem) entries
         (now (table .entry)) (now (source .entry))) (now (output .entry)) .answer))
-        × (now (output .exit) ≡ writer (order kind (idFrom count first second) specifier entries
+        × (now (output .exit) ≡ writer (order kind (idFrom count first second) (codeFrom code problem) entries
         (now (table .entry)) (now (source .entry))) (now (output .entry)) .output) ⌝ }
 {
     let id = Id {
@@ -77,8 +50,26 @@ pub extern "C" fn roadquill_write(
         first,
         second,
     };
-    match operation::write(kind, id, specifier, entries, table, source, output) {
-        Writing::Accepted(octets) => packed(0, octets as u32),
-        Writing::Refused { number, detail } => packed(number, detail),
+    let codes = Code {
+        first: code,
+        second: problem,
+    };
+    match operation::write(kind, id, codes, entries, table, source, output) {
+        Writing::Accepted(octets) => operation::packed(0, octets as u32),
+        Writing::Refused { number, detail } => operation::packed(number, detail),
+    }
+}
+
+// Puts the name of an error code at the start of a lent buffer; a code that Table 6 reserves has a name of no octets.
+// Octet 0 of the result is the answer, 0 or, where the buffer is too short, 17. Octets 1 to 4 are the count of octets of
+// the name. Only these change, and on a refusal none.
+#[no_mangle]
+pub extern "C" fn roadquill_error_name(code: u8, name: &mut [u8]) -> u64
+    ensures { λ r. ⌜ (r ≡ packedWriting (written (naming code (length (now (name .entry))))))
+        × (now (name .exit) ≡ outputAfter (now (name .entry)) (naming code (length (now (name .entry))))) ⌝ }
+{
+    match errors::put_name(code, name) {
+        Named::Octets(octets) => operation::packed(0, octets as u32),
+        Named::Short(octets) => operation::packed(17, octets as u32),
     }
 }

@@ -1,29 +1,32 @@
-//! The layout (4 to 9) at each element of both types.
+//! The layout (4 to 9, and 21) at each element of all types.
 
-use super::parts::{parts, sound, Part, TYPES};
+use super::parts::{parts, sound, Part};
 use super::{filling, Case};
 use crate::generate::draft::{Draft, Element, Length};
-use crate::rows::INVOKE;
+use crate::types::{CodeElement, ComponentType, TYPES};
 
 pub fn cases() -> Vec<Case> {
     let mut cases = Vec::new();
-    for kind in TYPES {
+    for kind in &TYPES {
         for part in parts(kind) {
             cases.extend(other_octets(kind, part));
             cases.extend(other_lengths(kind, part));
-            cases.extend(endings(kind, part));
+            // The file stays small: other elements end alike in all types.
+            if kind.has_row || matches!(part, Part::Code) {
+                cases.extend(endings(kind, part));
+            }
         }
         cases.extend(cuts(kind));
         cases.extend(id_sizes(kind));
         cases.extend(left_over(kind));
         cases.extend(left_out(kind));
+        cases.extend(codes(kind));
     }
-    cases.extend(operations());
     cases
 }
 
 /// Each bit of the first octet changed, the rest sound.
-fn other_octets(kind: u8, part: Part) -> Vec<Case> {
+fn other_octets(kind: &ComponentType, part: Part) -> Vec<Case> {
     let changed = |bit| {
         let mut draft = sound(kind);
         let octet = part.identifier(&draft)[0] ^ (1u8 << bit);
@@ -34,7 +37,7 @@ fn other_octets(kind: u8, part: Part) -> Vec<Case> {
 }
 
 /// A length of another form or another value, the rest sound.
-fn other_lengths(kind: u8, part: Part) -> Vec<Case> {
+fn other_lengths(kind: &ComponentType, part: Part) -> Vec<Case> {
     let lengths = [
         Length::Wide(0x81),
         Length::Wide(0x82),
@@ -87,7 +90,7 @@ const FIELDS: [(&[u8], usize); 6] = [
 /// The part stands last and all its parents end with it: within its
 /// identifier, in its length field, one octet before its contents end, and
 /// where they end.
-fn endings(kind: u8, part: Part) -> Vec<Case> {
+fn endings(kind: &ComponentType, part: Part) -> Vec<Case> {
     let identifier = part.identifier(&sound(kind));
     let mut ends: Vec<Vec<u8>> = (0..identifier.len())
         .map(|kept| identifier[..kept].to_vec())
@@ -106,7 +109,7 @@ fn endings(kind: u8, part: Part) -> Vec<Case> {
 }
 
 /// These octets in place of the part and of all behind it.
-fn ending(kind: u8, part: Part, octets: &[u8]) -> Case {
+fn ending(kind: &ComponentType, part: Part, octets: &[u8]) -> Case {
     let mut draft = sound(kind);
     let last = Element::raw(octets.to_vec());
     match part {
@@ -122,10 +125,10 @@ fn ending(kind: u8, part: Part, octets: &[u8]) -> Case {
             return Case::of(&draft);
         }
         Part::Set => draft.behind_set = octets.to_vec(),
-        Part::Operation => draft.operation = Some(last),
+        Part::Code => draft.code = Some(last),
         Part::Id => {
             draft.id = Some(last);
-            draft.operation = None;
+            draft.code = None;
         }
     }
     draft.set_identifier = None;
@@ -133,7 +136,7 @@ fn ending(kind: u8, part: Part, octets: &[u8]) -> Case {
 }
 
 /// The body, or the set in it, cut after each of its octets.
-fn cuts(kind: u8) -> Vec<Case> {
+fn cuts(kind: &ComponentType) -> Vec<Case> {
     let whole = sound(kind);
     let body = (0..whole.body().len()).map(|kept| Draft {
         body_cut: Some(kept),
@@ -147,7 +150,7 @@ fn cuts(kind: u8) -> Vec<Case> {
 }
 
 /// ID octets of each count, few of which a type allows.
-fn id_sizes(kind: u8) -> Vec<Case> {
+fn id_sizes(kind: &ComponentType) -> Vec<Case> {
     let of_count = |count| {
         let mut draft = sound(kind);
         draft.id = Some(Element::new(vec![0xCF], filling(count)));
@@ -157,7 +160,7 @@ fn id_sizes(kind: u8) -> Vec<Case> {
 }
 
 /// Octets behind the set and behind the component, alone and together.
-fn left_over(kind: u8) -> Vec<Case> {
+fn left_over(kind: &ComponentType) -> Vec<Case> {
     let mut cases = Vec::new();
     for behind_set in 0..3 {
         for behind in 0..3 {
@@ -170,28 +173,44 @@ fn left_over(kind: u8) -> Vec<Case> {
     cases
 }
 
-/// An element left out while the rest is sound, and the operation code in the
-/// type that has none.
-fn left_out(kind: u8) -> [Case; 4] {
-    let mut drafts = [sound(kind), sound(kind), sound(kind), sound(kind)];
+/// An element left out while the rest is sound, and in place of the code
+/// what stands there in each type: nothing in a RESULT.
+fn left_out(kind: &ComponentType) -> Vec<Case> {
+    let mut drafts = vec![sound(kind), sound(kind)];
     drafts[0].id = None;
-    drafts[1].operation = None;
-    drafts[2].set_identifier = None;
-    drafts[3].operation = sound(INVOKE).operation;
-    drafts.map(|draft| Case::of(&draft))
+    drafts[1].set_identifier = None;
+    drafts.extend(TYPES.iter().map(|other| Draft {
+        code: sound(other).code,
+        ..sound(kind)
+    }));
+    drafts.iter().map(Case::of).collect()
 }
 
-/// Operation codes of each size, with the right family and with others.
-fn operations() -> Vec<Case> {
+/// Codes of each size, in an INVOKE with the right family and with others.
+fn codes(kind: &ComponentType) -> Vec<Case> {
     let mut cases = Vec::new();
-    for family in (0..8).map(|bit| 9 ^ (1u8 << bit)).chain([9, 0]) {
+    let Some(element) = &kind.code else {
+        return cases;
+    };
+    for first in first_octets(element) {
         for count in [0, 1, 2, 3, 128] {
-            let mut draft = sound(INVOKE);
-            let mut contents = vec![family, 101];
+            let mut draft = sound(kind);
+            let mut contents = vec![first, 101];
             contents.resize(count, 101);
-            draft.operation = Some(Element::new(vec![0xD1], contents));
+            draft.code = Some(Element::new(vec![element.identifier], contents));
             cases.push(Case::of(&draft));
         }
     }
     cases
+}
+
+/// Without a family any octet is as good.
+fn first_octets(element: &CodeElement) -> Vec<u8> {
+    match *element.family {
+        [family] => (0..8)
+            .map(|bit| family ^ (1u8 << bit))
+            .chain([family, 0])
+            .collect(),
+        _ => vec![0x09, 0x81],
+    }
 }

@@ -1,17 +1,18 @@
 //! Types (3), sizes (2) and counts (10), at their borders.
 
 use super::lists::{all, holding, mandatory, with, List};
-use super::parts::{sound, Part, TYPES};
+use super::parts::{sound, Part};
 use super::{cases_of, draft, filling, nameless, of_type, Case};
 use crate::generate::draft::{Draft, Length};
 use crate::random::Random;
 use crate::reader::{LONGEST, MOST_PARAMETERS};
-use crate::rows::{Identifier, Row, INVOKE, ROWS};
+use crate::rows::{Identifier, Row, ROWS};
+use crate::types::{self, ComponentType, INVOKE, TYPES};
 
 pub fn cases() -> Vec<Case> {
     let mut cases = vec![raw(0, &[])];
     cases.extend(OTHER_TYPES.into_iter().flat_map(other_type));
-    cases.extend(TYPES.into_iter().flat_map(edges));
+    cases.extend(TYPES.iter().flat_map(edges));
     cases.extend([
         longest(LONGEST),
         longest(LONGEST + 1),
@@ -19,6 +20,7 @@ pub fn cases() -> Vec<Case> {
     ]);
     cases.extend(ROWS.iter().flat_map(crowds));
     cases.extend(broken_in_crowd());
+    cases.extend(TYPES.iter().flat_map(crowds_of_type));
     cases
 }
 
@@ -29,22 +31,22 @@ fn raw(specifier: u8, octets: &[u8]) -> Case {
     }
 }
 
-const OTHER_TYPES: [u8; 8] = [0x00, 0x30, 0x85, 0xE8, 0xEB, 0xEC, 0xF2, 0xFF];
+const OTHER_TYPES: [u8; 8] = [0x00, 0x30, 0x85, 0xE8, 0xED, 0xCB, 0xF2, 0xFF];
 
 /// Alone, with a bad length field, and before components that are else sound.
 fn other_type(octet: u8) -> Vec<Case> {
-    let before = |kind| {
+    let before = |kind: &ComponentType| {
         let mut draft = sound(kind);
         draft.kind = octet;
         Case::of(&draft)
     };
     let mut cases = vec![raw(0, &[octet]), raw(0, &[octet, 0x80])];
-    cases.extend(TYPES.map(before));
+    cases.extend(TYPES.iter().map(before));
     cases
 }
 
 /// Bodies and sets at the borders of the three forms of the length.
-fn edges(kind: u8) -> Vec<Case> {
+fn edges(kind: &ComponentType) -> Vec<Case> {
     let mut cases = Vec::new();
     for target in [127, 128, 255, 256] {
         cases.push(Case::of(&fitted(kind, target, |draft| draft.body().len())));
@@ -54,14 +56,15 @@ fn edges(kind: u8) -> Vec<Case> {
     cases
 }
 
-fn fitted(kind: u8, target: usize, measured: fn(&Draft) -> usize) -> Draft {
+fn fitted(kind: &ComponentType, target: usize, measured: fn(&Draft) -> usize) -> Draft {
     let mut draft = sound(kind);
     draft.fit(&mut Random::new(0), target, measured);
     draft
 }
 
 fn longest(size: usize) -> Case {
-    Case::of(&fitted(INVOKE, size, |draft| draft.octets().len()))
+    let draft = fitted(types::of(INVOKE), size, |draft| draft.octets().len());
+    Case::of(&draft)
 }
 
 /// The size is asked before the type.
@@ -96,8 +99,7 @@ fn crowd(count: usize) -> Draft {
     draft(nameless(), &vec![OTHER; count])
 }
 
-/// A broken 64th is given as such, a broken 65th is only a 65th; so is one of
-/// a component that its row would refuse.
+/// A broken 64th is given as such, a broken 65th is only a 65th.
 fn broken_in_crowd() -> Vec<Case> {
     let mut cases = Vec::new();
     for index in [MOST_PARAMETERS - 1, MOST_PARAMETERS, MOST_PARAMETERS + 1] {
@@ -108,11 +110,16 @@ fn broken_in_crowd() -> Vec<Case> {
         Part::Parameter(index).set_length(&mut draft, Length::Raw(vec![0x80]));
         cases.push(Case::of(&draft));
     }
-    cases.extend(TYPES.map(|kind| {
+    cases
+}
+
+/// 64 and 65 parameters of each type: the 65th is one also where a row would
+/// refuse what stands there, as a RESULT's by this specifier.
+fn crowds_of_type(kind: &ComponentType) -> [Case; 2] {
+    [MOST_PARAMETERS, MOST_PARAMETERS + 1].map(|count| {
         let mut draft = of_type(kind);
         draft.specifier = 0;
-        draft.parameters = crowd(MOST_PARAMETERS + 1).parameters;
+        draft.parameters = crowd(count).parameters;
         Case::of(&draft)
-    }));
-    cases
+    })
 }

@@ -1,11 +1,12 @@
 //! Which parameters a row names, and which row it is.
 
 use super::lists::{all, holding, leaving_out, mandatory, with, List};
-use super::{draft, of_type, Case};
+use super::{draft, draft_of, nameless, of_type, Case};
 use crate::generate::draft::Element;
-use crate::generate::REGISTER;
+use crate::generate::{Subject, REGISTER};
 use crate::reader::MOST_PARAMETERS;
-use crate::rows::{Identifier, Row, INVOKE, RESULT, ROWS};
+use crate::rows::{Identifier, Row, ROWS};
+use crate::types::{self, ERROR, INVOKE, REJECT, RESULT};
 
 pub fn lists(row: &Row) -> Vec<List> {
     let questions = [twins, register, others, alike];
@@ -85,16 +86,39 @@ pub fn other_callers(row: &'static Row) -> Vec<Case> {
     ROWS.iter().map(with_caller).collect()
 }
 
+/// What the row names, all of it twice, in an ERROR and in a REJECT that have
+/// its specifier as their code and from the caller: no row is asked.
+pub fn not_asked(row: &'static Row) -> [Case; 2] {
+    [ERROR, REJECT].map(|kind| {
+        let subject = Subject::new(kind, [row.specifier, 9], row);
+        let mut draft = draft_of(subject, &with(&all(row), &all(row)));
+        draft.specifier = row.specifier;
+        Case::of(&draft)
+    })
+}
+
+/// Errors with a name and those around them, and problems of each kind: none
+/// is refused, whatever its octets are.
+pub fn errors_and_problems() -> Vec<Case> {
+    let errors = (127..=143).chain([0, 4, 9, 13, 0xD4, 0xDF, 0xE0, 0xFF]);
+    let errors = errors.map(|code| (ERROR, [code, 0]));
+    let problems = (0..=6).flat_map(|first| [0, 1, 9, 0xFF].map(|second| [first, second]));
+    let problems = problems.chain([[0x80, 0x01], [0xD5, 0x02], [0xFF, 0x00], [0xFF, 0xFF]]);
+    let all = errors.chain(problems.map(|code| (REJECT, code)));
+    let case = |(kind, code)| Case::of(&draft_of(Subject::new(kind, code, nameless()), &[]));
+    all.map(case).collect()
+}
+
 /// Every specifier in both types, with an empty set: most have no row, and
 /// some have one in the other type only. The ID octets move the specifier.
 pub fn every_specifier() -> Vec<Case> {
     let mut cases = Vec::new();
     for specifier in 0..=u8::MAX {
-        let mut invoke = of_type(INVOKE);
+        let mut invoke = of_type(types::of(INVOKE));
         let id_count = usize::from(specifier % 3);
         invoke.id = Some(Element::new(vec![0xCF], vec![0x05; id_count]));
-        invoke.operation = Some(Element::new(vec![0xD1], vec![0x09, specifier]));
-        let mut result = of_type(RESULT);
+        invoke.code = Element::code(types::of(INVOKE), [specifier, 0]);
+        let mut result = of_type(types::of(RESULT));
         result.specifier = specifier;
         cases.extend([Case::of(&invoke), Case::of(&result)]);
     }

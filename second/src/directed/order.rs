@@ -1,10 +1,11 @@
 //! Two faults at once: the earliest from left to right is given, the first
 //! asked at one element, and the layout's before the row's.
 
-use super::parts::{parts, sound, Part, TYPES};
+use super::parts::{parts, sound, Part};
 use super::{filling, parameter, Case};
 use crate::generate::draft::{Draft, Length};
-use crate::rows::{Identifier, INVOKE};
+use crate::rows::Identifier;
+use crate::types::{ComponentType, INVOKE, TYPES};
 
 #[derive(Clone, Copy)]
 enum Fault {
@@ -27,7 +28,7 @@ const FAULTS: [Fault; 6] = [
 
 pub fn cases() -> Vec<Case> {
     let mut cases = Vec::new();
-    for kind in TYPES {
+    for kind in &TYPES {
         let faults = faults(kind);
         for (index, first) in faults.iter().enumerate() {
             cases.extend(
@@ -47,14 +48,14 @@ pub fn cases() -> Vec<Case> {
 }
 
 /// Every fault at every element; all parameters but two are alike in this.
-fn faults(kind: u8) -> Vec<(Part, Fault)> {
+fn faults(kind: &ComponentType) -> Vec<(Part, Fault)> {
     let parts = parts(kind).into_iter();
     let kept = parts.filter(|part| !matches!(part, Part::Parameter(2..)));
     kept.flat_map(|part| FAULTS.map(|fault| (part, fault)))
         .collect()
 }
 
-fn both(kind: u8, first: (Part, Fault), other: (Part, Fault)) -> Case {
+fn both(kind: &ComponentType, first: (Part, Fault), other: (Part, Fault)) -> Case {
     let mut draft = sound(kind);
     put(&mut draft, first);
     broken(draft, other)
@@ -75,23 +76,23 @@ fn put(draft: &mut Draft, (part, fault): (Part, Fault)) {
         (Fault::LeftOver, Part::Whole) => draft.behind = filling(1),
         (Fault::LeftOver, Part::Set) => draft.behind_set = filling(2),
         (Fault::Size, Part::Id) => draft.id.as_mut().expect("an ID").contents = filling(3),
-        (Fault::Size, Part::Operation) => operation(draft).push(0x00),
-        (Fault::Family, Part::Operation) => operation(draft)[0] = 0x08,
+        (Fault::Size, Part::Code) => code(draft).push(0x00),
+        (Fault::Family, Part::Code) if code(draft)[0] == 0x09 => code(draft)[0] = 0x08,
         _ => {}
     }
 }
 
-fn operation(draft: &mut Draft) -> &mut Vec<u8> {
-    &mut draft.operation.as_mut().expect("an INVOKE").contents
+fn code(draft: &mut Draft) -> &mut Vec<u8> {
+    &mut draft.code.as_mut().expect("a code").contents
 }
 
 /// Sound in its layout, but without a row, with a named one again, or with
-/// what is mandatory missing.
-fn refused_by_row(kind: u8) -> [Draft; 3] {
+/// what is mandatory missing; nothing of it is asked of an ERROR or a REJECT.
+fn refused_by_row(kind: &ComponentType) -> [Draft; 3] {
     let mut drafts = [sound(kind), sound(kind), sound(kind)];
     drafts[0].specifier = 0;
-    if kind == INVOKE {
-        operation(&mut drafts[0])[1] = 0;
+    if kind.octet == INVOKE {
+        code(&mut drafts[0])[1] = 0;
     }
     drafts[1]
         .parameters

@@ -1,39 +1,50 @@
 //! The elements of a component as places where a fault can stand.
 
-use super::draft;
+use super::draft_of;
 use crate::generate::draft::{Draft, Length};
-use crate::rows::{find, Identifier, INVOKE, RESULT};
+use crate::generate::Subject;
+use crate::rows::{find, Identifier};
+use crate::types::{ComponentType, ERROR, INVOKE, RESULT};
 
 #[derive(Clone, Copy)]
 pub enum Part {
     Whole,
     Id,
-    Operation,
+    Code,
     Set,
     Parameter(usize),
 }
 
-use Part::{Id, Operation, Parameter, Set, Whole};
+use Part::{Code, Id, Parameter, Set, Whole};
 
-pub const TYPES: [u8; 2] = [INVOKE, RESULT];
-
-/// A component that its row takes, with identifiers of one, two and three
-/// octets: InterSystemSMSPage, which has a row for both types.
-pub fn sound(kind: u8) -> Draft {
-    let numbers: &[u16] = if kind == INVOKE {
-        &[8, 105, 242, 116]
-    } else {
-        &[7, 105, 153]
+/// A component that is accepted, with identifiers of one, two and three
+/// octets: InterSystemSMSPage, which has a row for both types. An ERROR and a
+/// REJECT have a parameter twice that this row names.
+pub fn sound(kind: &ComponentType) -> Draft {
+    let numbers: &[u16] = match kind.octet {
+        INVOKE => &[8, 105, 242, 116],
+        RESULT => &[7, 105, 153],
+        _ => &[153, 5, 153],
     };
     let list: Vec<Identifier> = numbers.iter().copied().map(Identifier::primitive).collect();
-    draft(find(kind, 101).expect("a row of this type"), &list)
+    let code = match kind.octet {
+        INVOKE | RESULT => [101, 0],
+        ERROR => [0x81, 0],
+        _ => [1, 2],
+    };
+    let row = find(RESULT, 101).expect("the InterSystemSMSPage result's row");
+    draft_of(Subject::new(kind.octet, code, row), &list)
 }
 
-/// From left to right.
-pub fn parts(kind: u8) -> Vec<Part> {
+/// From left to right. Of an ERROR and a REJECT only those in which they
+/// differ from the other types, and the set behind.
+pub fn parts(kind: &ComponentType) -> Vec<Part> {
+    if !kind.has_row {
+        return vec![Id, Code, Set];
+    }
     let parameters = (0..sound(kind).parameters.len()).map(Parameter);
-    let operation = (kind == INVOKE).then_some(Operation);
-    let head = [Some(Whole), Some(Id), operation, Some(Set)];
+    let code = kind.code.as_ref().map(|_| Code);
+    let head = [Some(Whole), Some(Id), code, Some(Set)];
     head.into_iter().flatten().chain(parameters).collect()
 }
 
@@ -42,7 +53,7 @@ impl Part {
         match self {
             Whole => vec![draft.kind],
             Id => vec![0xCF],
-            Operation => vec![0xD1],
+            Code => draft.code.as_ref().expect("a code").identifier.clone(),
             Set => vec![0xF2],
             Parameter(index) => draft.parameters[index].identifier.clone(),
         }
@@ -53,7 +64,7 @@ impl Part {
         match self {
             Whole => draft.kind = octet,
             Id => draft.id.as_mut().expect("an ID").identifier = vec![octet],
-            Operation => draft.operation.as_mut().expect("an INVOKE").identifier = vec![octet],
+            Code => draft.code.as_mut().expect("a code").identifier = vec![octet],
             Set => draft.set_identifier = Some(octet),
             Parameter(index) => draft.parameters[index].identifier[0] = octet,
         }
@@ -63,7 +74,7 @@ impl Part {
         let field = match self {
             Whole => &mut draft.outer,
             Id => &mut draft.id.as_mut().expect("an ID").length,
-            Operation => &mut draft.operation.as_mut().expect("an INVOKE").length,
+            Code => &mut draft.code.as_mut().expect("a code").length,
             Set => &mut draft.set_length,
             Parameter(index) => &mut draft.parameters[index].length,
         };

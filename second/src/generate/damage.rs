@@ -4,21 +4,26 @@
 use super::draft::{element, identifier, Draft, Element, Length};
 use super::{choice_members, draw_kind, draw_named, draw_other, draw_rowless, NUMBERS};
 use crate::random::Random;
-use crate::rows::INVOKE;
+use crate::types::{self, INVOKE};
 
 type Damage = fn(&mut Random, &mut Draft);
 
-/// Some stand twice to be met more often.
-const DAMAGES: [Damage; 40] = [
+/// Some stand more than once to be met more often.
+const DAMAGES: [Damage; 47] = [
     wrong_type,
     swapped_type,
     no_id,
     wrong_id_identifier,
     wrong_id_length,
     wrong_id_length,
-    no_operation,
-    wrong_operation_identifier,
-    wrong_operation_length,
+    no_code,
+    other_type_s_code,
+    wrong_code_identifier,
+    wrong_code_identifier,
+    wrong_code_length,
+    wrong_code_length,
+    wrong_code_field,
+    cut_at_code,
     wrong_family,
     no_set,
     wrong_set_identifier,
@@ -45,6 +50,8 @@ const DAMAGES: [Damage; 40] = [
     twin_added,
     repeat_any,
     repeat_any,
+    repeat_any,
+    drop_one,
     drop_one,
     drop_one,
     both_of_choice,
@@ -57,11 +64,13 @@ pub fn apply(random: &mut Random, draft: &mut Draft) {
 }
 
 fn wrong_type(random: &mut Random, draft: &mut Draft) {
-    let near = [0xE8, 0xEB, 0xEC, 0xC9, 0xCA, 0x69, 0x6A, 0x30, 0x00, 0xFF];
+    let near = [
+        0xE8, 0xED, 0xEE, 0xC9, 0xCA, 0xCB, 0xCC, 0x69, 0x6C, 0x30, 0x00, 0xFF,
+    ];
     draft.kind = random.pick(&near);
 }
 
-/// The rest stays as the other type has it.
+/// The rest stays as it was in another type.
 fn swapped_type(random: &mut Random, draft: &mut Draft) {
     draft.kind = draw_kind(random);
 }
@@ -83,27 +92,70 @@ fn wrong_id_length(random: &mut Random, draft: &mut Draft) {
     }
 }
 
-fn no_operation(_: &mut Random, draft: &mut Draft) {
-    draft.operation = None;
+fn no_code(_: &mut Random, draft: &mut Draft) {
+    draft.code = None;
 }
 
-fn wrong_operation_identifier(random: &mut Random, draft: &mut Draft) {
-    if let Some(operation) = &mut draft.operation {
-        operation.identifier = vec![random.pick(&[0xD0, 0xD2, 0xF1, 0x91, 0x51, 0xCF, 0xF2, 0x02])];
+/// An INVOKE with a problem, a RESULT with an error, and so on.
+fn other_type_s_code(random: &mut Random, draft: &mut Draft) {
+    let kind = types::of(draw_kind(random));
+    draft.code = Element::code(kind, [random.octet(), random.octet()]);
+}
+
+/// Mostly what stands there in another type.
+fn wrong_code_identifier(random: &mut Random, draft: &mut Draft) {
+    let octet = if random.percent(60) {
+        random.pick(&[0xD1, 0xD3, 0xD4, 0xD5, 0xF2])
+    } else {
+        random.pick(&[
+            0xD0, 0xD2, 0xF1, 0xF4, 0xF5, 0x91, 0x94, 0x95, 0x51, 0x54, 0x55, 0xCF, 0x02,
+        ])
+    };
+    if let Some(code) = &mut draft.code {
+        code.identifier = vec![octet];
     }
 }
 
-fn wrong_operation_length(random: &mut Random, draft: &mut Draft) {
-    let count = random.pick(&[0, 1, 3, 4, 127, 128, 256]);
-    if let Some(operation) = &mut draft.operation {
-        operation.contents.resize(count, 0x04);
+fn wrong_code_length(random: &mut Random, draft: &mut Draft) {
+    let count = random.pick(&[0, 0, 1, 1, 2, 2, 3, 3, 4, 127, 128, 256]);
+    if let Some(code) = &mut draft.code {
+        code.contents.resize(count, 0x04);
     }
 }
 
+/// Ill formed, not shortest, or of contents that run past the parent.
+fn wrong_code_field(random: &mut Random, draft: &mut Draft) {
+    let length = match random.below(4) {
+        0 => Length::Wide(random.pick(&[0x81, 0x82])),
+        1 => Length::Raw(vec![random.pick(&[0x80, 0x83, 0xFF])]),
+        2 => Length::Off(random.pick(&[100, 127, 250])),
+        _ => Length::Off(random.pick(&[1000, 4096, 60000])),
+    };
+    if let Some(code) = &mut draft.code {
+        code.length = length;
+    }
+}
+
+/// The component ends where the element behind its ID is wanted, or soon
+/// after: in a length field of each form.
+fn cut_at_code(random: &mut Random, draft: &mut Draft) {
+    let length = match random.below(4) {
+        0 => Length::Raw(vec![0x81]),
+        1 => Length::Raw(vec![0x82, 0x01]),
+        _ => Length::Shortest,
+    };
+    if let Some(code) = &mut draft.code {
+        code.length = length;
+    }
+    let kept = draft.id_octets().len() + random.below(4);
+    draft.body_cut = Some(kept);
+}
+
+/// Of an INVOKE; another octet is as good for an error or a problem.
 fn wrong_family(random: &mut Random, draft: &mut Draft) {
     let family = random.pick(&[0x00, 0x08, 0x0A, 0x89, 0x19, 0xFF, 0x01]);
-    if let Some(operation) = &mut draft.operation {
-        if let Some(first) = operation.contents.first_mut() {
+    if let Some(code) = &mut draft.code {
+        if let Some(first) = code.contents.first_mut() {
             *first = family;
         }
     }
@@ -121,8 +173,8 @@ fn no_row(random: &mut Random, draft: &mut Draft) {
     let specifier = draw_rowless(random, draft.kind);
     if draft.kind != INVOKE {
         draft.specifier = specifier;
-    } else if let Some(operation) = &mut draft.operation {
-        operation.contents = vec![0x09, specifier];
+    } else if let Some(code) = &mut draft.code {
+        code.contents = vec![0x09, specifier];
     }
 }
 
@@ -196,7 +248,7 @@ fn any_length<'a>(random: &mut Random, draft: &'a mut Draft) -> &'a mut Length {
     match random.below(6) {
         0 => &mut draft.outer,
         1 if draft.id.is_some() => &mut draft.id.as_mut().expect("there").length,
-        2 if draft.operation.is_some() => &mut draft.operation.as_mut().expect("there").length,
+        2 if draft.code.is_some() => &mut draft.code.as_mut().expect("there").length,
         4 | 5 if parameters > 0 => &mut draft.parameters[random.below(parameters)].length,
         _ => &mut draft.set_length,
     }

@@ -1,9 +1,10 @@
 //! A component in pieces, so that one piece can be damaged while the lengths
 //! around it stay right and the reader gets as far as that piece.
 
-use super::{draw_parameters, draw_rowless, Drawn, FILLER};
+use super::{draw_id_count, draw_parameters, draw_rowless, Drawn, Subject, FILLER};
 use crate::random::Random;
-use crate::rows::{Row, INVOKE};
+use crate::rows::Row;
+use crate::types::{Code, ComponentType};
 
 /// How a length field is made.
 #[derive(Clone)]
@@ -34,7 +35,8 @@ pub struct Draft {
     pub specifier: u8,
     pub outer: Length,
     pub id: Option<Element>,
-    pub operation: Option<Element>,
+    /// Operation code, error or problem.
+    pub code: Option<Element>,
     pub set_identifier: Option<u8>,
     pub set_length: Length,
     pub parameters: Vec<Element>,
@@ -62,6 +64,12 @@ impl Element {
             length: Length::Raw(Vec::new()),
             contents: Vec::new(),
         }
+    }
+
+    /// The element with this code in a component of this type, if it has one.
+    pub fn code(kind: &ComponentType, code: Code) -> Option<Element> {
+        let element = kind.code.as_ref();
+        element.map(|element| Element::new(vec![element.identifier], element.contents(code)))
     }
 
     fn put(&self, octets: &mut Vec<u8>) {
@@ -114,29 +122,31 @@ pub(super) fn element(random: &mut Random, drawn: Drawn) -> Element {
     )
 }
 
-/// What the caller gives: in an INVOKE anything, as it is ignored.
-fn draw_caller(random: &mut Random, row: &Row) -> u8 {
-    if row.kind != INVOKE {
-        row.specifier
-    } else if random.percent(50) {
-        draw_rowless(random, row.kind)
-    } else {
-        random.octet()
+/// What the caller gives: anything but in a RESULT, as it plays no part, and
+/// often the specifier of a row.
+fn draw_caller(random: &mut Random, subject: Subject) -> u8 {
+    if subject.kind.code.is_none() {
+        return subject.code[0];
+    }
+    match random.below(3) {
+        0 => subject.row.specifier,
+        1 => draw_rowless(random, subject.kind.octet),
+        _ => random.octet(),
     }
 }
 
 impl Draft {
-    /// A component of the row's type and specifier with one ID octet. An
-    /// INVOKE has 0, which has no row, from the caller.
-    pub fn of(row: &'static Row, parameters: Vec<Element>) -> Draft {
-        let invoke = row.kind == INVOKE;
+    /// A component with one ID octet. But for a RESULT the caller gives 0,
+    /// which has no row.
+    pub fn of(subject: Subject, parameters: Vec<Element>) -> Draft {
+        let code = Element::code(subject.kind, subject.code);
         Draft {
-            row,
-            kind: row.kind,
-            specifier: if invoke { 0 } else { row.specifier },
+            row: subject.row,
+            kind: subject.kind.octet,
+            specifier: code.as_ref().map_or(subject.code[0], |_| 0),
             outer: Length::Shortest,
             id: Some(Element::new(vec![0xCF], vec![0x05])),
-            operation: invoke.then(|| Element::new(vec![0xD1], vec![0x09, row.specifier])),
+            code,
             set_identifier: Some(0xF2),
             set_length: Length::Shortest,
             parameters,
@@ -147,18 +157,14 @@ impl Draft {
         }
     }
 
-    /// A component that the row takes.
-    pub fn valid(random: &mut Random, row: &'static Row) -> Draft {
-        let id_count = if row.kind == INVOKE {
-            random.below(3)
-        } else {
-            1
-        };
+    /// A component that is accepted.
+    pub fn valid(random: &mut Random, subject: Subject) -> Draft {
+        let id_count = draw_id_count(random, subject.kind);
         let id = random.octets(id_count);
-        let caller = draw_caller(random, row);
-        let drawn = draw_parameters(random, row);
+        let caller = draw_caller(random, subject);
+        let drawn = draw_parameters(random, subject);
         let parameters = drawn.iter().map(|one| element(random, *one)).collect();
-        let mut draft = Draft::of(row, parameters);
+        let mut draft = Draft::of(subject, parameters);
         draft.id = Some(Element::new(vec![0xCF], id));
         draft.specifier = caller;
         draft
@@ -175,11 +181,15 @@ impl Draft {
         octets
     }
 
-    pub fn body(&self) -> Vec<u8> {
+    pub fn id_octets(&self) -> Vec<u8> {
         let mut octets = Vec::new();
-        for part in [&self.id, &self.operation].into_iter().flatten() {
-            part.put(&mut octets);
-        }
+        self.id.iter().for_each(|id| id.put(&mut octets));
+        octets
+    }
+
+    pub fn body(&self) -> Vec<u8> {
+        let mut octets = self.id_octets();
+        self.code.iter().for_each(|code| code.put(&mut octets));
         let set = self.set_contents();
         if let Some(identifier) = self.set_identifier {
             octets.push(identifier);

@@ -2,10 +2,11 @@
 
 use super::damage;
 use super::draft::{element, Draft};
-use super::{draw_kind, draw_named, draw_row};
+use super::{draw_kind, draw_named, draw_subject, Subject};
 use crate::random::Random;
 use crate::reader::{MOST_PARAMETERS, TABLE_NUMBERS};
-use crate::rows::{self, INVOKE};
+use crate::rows;
+use crate::types::INVOKE;
 
 /// What a call of the reader takes; the table's numbers before the call
 /// follow from their index.
@@ -23,8 +24,8 @@ pub fn read_case(random: &mut Random) -> ReadCase {
         780..=829 => mutated(random),
         830..=869 => truncated(random),
         870..=904 => crowded(random),
-        905..=924 => sized(random),
-        925..=934 => sized_large(random),
+        905..=921 => sized(random),
+        922..=934 => sized_large(random),
         935..=954 => wide_parameter(random),
         955..=959 => (Vec::new(), random.octet()),
         960..=979 => noise(random),
@@ -52,8 +53,8 @@ fn table_length(random: &mut Random) -> usize {
 }
 
 fn draft(random: &mut Random) -> Draft {
-    let row = draw_row(random);
-    Draft::valid(random, row)
+    let subject = draw_subject(random);
+    Draft::valid(random, subject)
 }
 
 fn finished(draft: &Draft) -> (Vec<u8>, u8) {
@@ -131,7 +132,7 @@ fn sized_large(random: &mut Random) -> (Vec<u8>, u8) {
         damage::fill_up(random, &mut draft, 63);
     }
     let target = match random.below(20) {
-        0..=16 => random.pick(&[4095, 4096, 4097]),
+        0..=16 => random.pick(&[4095, 4096, 4097, 4097]),
         17 => 4098,
         18 => random.between(1000, 4090),
         _ => random.between(4099, 6000),
@@ -161,7 +162,7 @@ fn wide_parameter(random: &mut Random) -> (Vec<u8>, u8) {
 /// The only row with a choice, with both members of it.
 fn doubled_choice(random: &mut Random) -> (Vec<u8>, u8) {
     let row = rows::find(INVOKE, 13).expect("the row with a choice");
-    let mut draft = Draft::valid(random, row);
+    let mut draft = Draft::valid(random, Subject::of_row(row));
     damage::both_of_choice(random, &mut draft);
     if random.percent(30) {
         damage::apply(random, &mut draft);

@@ -1,10 +1,11 @@
 //! Whole cases for the writer.
 
-use super::{choice_members, draw_named, draw_other, draw_parameters, draw_row, draw_rowless};
-use super::{Drawn, FILLER};
+use super::{choice_members, draw_id_count, draw_named, draw_other, draw_parameters};
+use super::{draw_rowless, draw_subject, Drawn, Subject, FILLER};
 use crate::random::Random;
 use crate::reader::ENTRY_NUMBERS;
-use crate::rows::{Row, INVOKE};
+use crate::rows::Row;
+use crate::types::REJECT;
 use crate::writer::{self, Head};
 
 /// What a call of the writer takes; the output's octets before the call
@@ -41,8 +42,8 @@ struct Draft {
 
 type Damage = fn(&mut Random, &mut Draft);
 
-/// Some stand twice to be met more often.
-const DAMAGES: [Damage; 28] = [
+/// Some stand more than once to be met more often.
+const DAMAGES: [Damage; 31] = [
     wrong_type,
     wrong_id_count,
     wrong_id_count,
@@ -64,9 +65,12 @@ const DAMAGES: [Damage; 28] = [
     no_row,
     repeat_any,
     repeat_any,
+    repeat_any,
+    drop_one,
     drop_one,
     drop_one,
     twin_instead,
+    both_of_choice,
     both_of_choice,
     both_of_choice,
     overlapping,
@@ -99,23 +103,11 @@ fn damage(random: &mut Random, draft: &mut Draft) {
 
 impl Draft {
     fn valid(random: &mut Random) -> Draft {
-        let row = draw_row(random);
-        let id_count = if row.kind == INVOKE {
-            random.below(3) as u8
-        } else {
-            1
-        };
-        let head = Head {
-            kind: row.kind,
-            id_count,
-            id_first: random.octet(),
-            id_second: random.octet(),
-            specifier: row.specifier,
-        };
+        let subject = draw_subject(random);
         let lead = random.below(6);
         let mut draft = Draft {
-            row,
-            head,
+            row: subject.row,
+            head: draw_head(random, subject),
             list: Vec::new(),
             source: random.octets(lead),
             claimed: None,
@@ -123,7 +115,7 @@ impl Draft {
             missing: 0,
             more: 0,
         };
-        for drawn in draw_parameters(random, row) {
+        for drawn in draw_parameters(random, subject) {
             draft.append(random, drawn);
         }
         if random.percent(10) {
@@ -200,6 +192,19 @@ impl Draft {
     }
 }
 
+/// The code's second octet is anything where the writer does not look at it.
+fn draw_head(random: &mut Random, subject: Subject) -> Head {
+    let [first, second] = subject.code;
+    let unused = subject.kind.octet != REJECT && random.percent(70);
+    Head {
+        kind: subject.kind.octet,
+        id_count: draw_id_count(random, subject.kind) as u8,
+        id_first: random.octet(),
+        id_second: random.octet(),
+        code: [first, if unused { random.octet() } else { second }],
+    }
+}
+
 /// Places of all kinds, as the writer ignores them: in some tables one kind
 /// for all entries, in most each entry its own.
 fn with_places(random: &mut Random, list: &[Entry]) -> Vec<Entry> {
@@ -242,7 +247,9 @@ fn output_length(random: &mut Random, needed: usize) -> usize {
 }
 
 fn wrong_type(random: &mut Random, draft: &mut Draft) {
-    draft.head.kind = random.pick(&[0xE8, 0xEB, 0xEC, 0xC9, 0x69, 0x30, 0x00, 0xFF, 0xE9, 0xEA]);
+    draft.head.kind = random.pick(&[
+        0xE8, 0xED, 0xC9, 0xCB, 0x6C, 0x30, 0x00, 0xFF, 0xE9, 0xEA, 0xEB, 0xEC,
+    ]);
 }
 
 fn wrong_id_count(random: &mut Random, draft: &mut Draft) {
@@ -362,7 +369,7 @@ fn short_source(random: &mut Random, draft: &mut Draft) {
 }
 
 fn no_row(random: &mut Random, draft: &mut Draft) {
-    draft.head.specifier = draw_rowless(random, draft.head.kind);
+    draft.head.code[0] = draw_rowless(random, draft.head.kind);
 }
 
 fn insert(random: &mut Random, draft: &mut Draft, entry: Entry) {

@@ -4,17 +4,19 @@ use mathlib.Core.Path.{_≡_}
 use mathlib.Core.Bool.{true}
 use mathlib.Core.List.{List, [], _∷_, _++_}
 use lib.ListN.{length}
-use lib.Dec.{leb, eqb}
-use Rattle.element.specs.Octets.{Octets, if}
+use lib.Dec.{leb}
+use Rattle.element.specs.Octets.{Octets}
 use Rattle.element.specs.Answer.{Answer, accepted, _>>=_, _>>_, check}
 use Rattle.element.specs.Field.{put}
 use Rattle.element.specs.Length.{shortest}
 use Rattle.component.specs.declared.Id as D
+use Rattle.component.specs.declared.Code as E
 use Rattle.component.specs.declared.Count as C
 use Rattle.component.specs.declared.Count.the-variants as CV
+use Rattle.component.specs.Types.{codingOf}
 use Rattle.component.specs.Grammar.{Parameter}
-use Rattle.component.specs.Composed.{element}
-use Rattle.component.specs.Table.{held, idOctets}
+use Rattle.component.specs.Composed.{element, codeElement}
+use Rattle.component.specs.Table.{held, idOctets, writtenCode}
 use Rattle.component.specs.Composing.{entryStands, Sizes}
 use Rattle.component.specs.Needed.{elementSize, setSize, bodySize}
 
@@ -23,13 +25,15 @@ pub record Put (field : Octets) (at : ℕ) (out : Octets) (next : ℕ) (after : 
   pub place : next ≡ at + length field
   pub octets : after ≡ put field at out
 
-unfoldable pub operationOctets : (kind specifier : ℕ) → Octets
-operationOctets kind specifier = if (eqb kind 0xE9) (0xD1 ∷ 2 ∷ 9 ∷ specifier ∷ []) []
+-- the element of the code
+unfoldable pub codedOctets : (kind : ℕ) → E.Code → Octets
+codedOctets kind code = codeElement (codingOf kind) (writtenCode kind code)
 
--- all that stands before the parameters, where the contents of E9 or EA take `body` octets and the parameters `set`
-unfoldable pub headOctets : (kind : ℕ) (id : D.Id) (specifier body set : ℕ) → Octets
-headOctets kind id specifier body set =
-    (kind ∷ []) ++ shortest body ++ element (0xCF ∷ []) (idOctets id) ++ operationOctets kind specifier
+-- all that stands before the parameters, where the contents of the type's element take `body` octets and the
+-- parameters `set`
+unfoldable pub headOctets : (kind : ℕ) (id : D.Id) (code : E.Code) (body set : ℕ) → Octets
+headOctets kind id code body set =
+    (kind ∷ []) ++ shortest body ++ element (0xCF ∷ []) (idOctets id) ++ codedOctets kind code
     ++ (0xF2 ∷ []) ++ shortest set
 
 -- ---- the entries of a table, where all of them stand

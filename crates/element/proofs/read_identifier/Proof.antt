@@ -17,16 +17,19 @@ double-requires : tie.Need-double-requires
 double-requires c κs = search needs
 
 returns-2 : tie.Need-returns-2
-returns-2 c = low-bits _ _ (c .before .before .double .ensures .0) (omega arith) (c .before .if2 .taken) (c .if3 .taken)
+returns-2 c = other-class _ _ (c .before .double .ensures .0) (omega arith) (λ z. omega arith)
+
+returns-3 : tie.Need-returns-3
+returns-3 c = other-class _ _ (c .before .before .double .ensures .0) (omega arith) (λ z. omega arith)
+
+returns-4 : tie.Need-returns-4
+returns-4 c = low-bits _ _ (c .before .before .before .double .ensures .0) (omega arith) (omega arith) (c .if4 .taken)
 
 scan-requires : tie.Need-scan-requires
 scan-requires c κs = search needs
 
-returns-3 : tie.Need-returns-3
-returns-3 c = c .scan .ensures ∙ all-ones _ _ (c .before .before .before .double .ensures .0) (omega arith) (c .before .before .if2 .taken) (c .before .if3 .left)
-
-returns-4 : tie.Need-returns-4
-returns-4 c = other-class _ _ (c .before .double .ensures .0) (omega arith) (c .if2 .left)
+returns-5 : tie.Need-returns-5
+returns-5 c = c .scan .ensures ∙ all-ones _ _ (c .before .before .before .before .double .ensures .0) (omega arith) (omega arith) (c .before .if4 .left)
 
 pub read-identifier-spec : {M : Type 1} → statement M
 read-identifier-spec =
@@ -36,6 +39,7 @@ read-identifier-spec =
     shared-slice-read-double
     double-requires
     returns-2
-    scan-requires
     returns-3
-    returns-4)
+    returns-4
+    scan-requires
+    returns-5)

@@ -16,43 +16,57 @@ mul-copy-numbers c = search needs
 copy-numbers-requires : tie.Need-copy-numbers-requires
 copy-numbers-requires c κs = search needs
 
+id-of-requires : tie.Need-id-of-requires
+id-of-requires c κs = search needs
+
+code-of-requires : tie.Need-code-of-requires
+code-of-requires c κs = search needs
+
 sub-t16 : tie.Need-sub-t16
-sub-t16 c = omega (arith, rw (c .before .before .before .before .before .before .judged .given .1) at (c .before .before .before .before .before .before .before .before .before .before .pre .4))
+sub-t16 c =
+    let p = c .before .before .before .before .before .before .before in
+    omega (arith, rw (p .judged .given .1) at (p .before .before .before .before .before .pre .4))
 
 enum-told : tie.Need-enum-told
 enum-told c = search needs
 
-cast-t17 : tie.Need-cast-t17
-cast-t17 c = search needs
+operation-place-requires : tie.Need-operation-place-requires
+operation-place-requires c κs = search needs
 
 enum-known-judged-2 : tie.Need-enum-known-judged-2
 enum-known-judged-2 c = search needs
 
 place-of-requires : tie.Need-place-of-requires
-place-of-requires c κs = omega (arith, rw (c .before .judged2 .given .1) at (c .before .before .before .before .before .pre .4))
+place-of-requires c κs =
+    let p = c .before in
+    omega (arith, rw (p .judged2 .given .1) at (p .before .before .before .before .before .pre .4))
 
 enum-known-judged-3 : tie.Need-enum-known-judged-3
 enum-known-judged-3 c = search needs
 
-cast-t19 : tie.Need-cast-t19
-cast-t19 c = search needs
+cast-t21 : tie.Need-cast-t21
+cast-t21 c = search needs
 
 enum-known-judged-4 : tie.Need-enum-known-judged-4
 enum-known-judged-4 c = search needs
 
 place-of-requires-2 : tie.Need-place-of-requires-2
-place-of-requires-2 c κs = omega (arith, rw (c .before .judged4 .given .1) at (c .before .before .before .before .before .pre .4))
+place-of-requires-2 c κs =
+    let p = c .before in
+    omega (arith, rw (p .judged4 .given .1) at (p .before .before .before .before .before .pre .4))
 
 same-length : tie.Need-same-length
 same-length c = search needs
 
 returns : tie.Need-returns
 unfolding finished tableFinished
-returns c = rw (c .before .before .before .before .before .before .judged .given .1) (refl, c .before .before .before .copy-numbers .ensures)
+returns c =
+    let p = c .before .before .before .before in
+    rw (p .before .before .before .judged .given .1, ← c .before .id-of .ensures, ← c .code-of .ensures) (refl, p .copy-numbers .ensures)
 
 returns-2 : tie.Need-returns-2
 unfolding finished tableFinished detailOf
-returns-2 c = rw (c .before .enum-told .given .1) (refl, refl)
+returns-2 c = rw (c .before .enum-told .given .1, ← c .operation-place .ensures) (refl, refl)
 
 returns-3 : tie.Need-returns-3
 unfolding finished tableFinished detailOf
@@ -73,13 +87,15 @@ finish-spec =
     enum-known-judged
     mul-copy-numbers
     copy-numbers-requires
+    id-of-requires
+    code-of-requires
     sub-t16
     enum-told
-    cast-t17
+    operation-place-requires
     enum-known-judged-2
     place-of-requires
     enum-known-judged-3
-    cast-t19
+    cast-t21
     enum-known-judged-4
     place-of-requires-2
     same-length

@@ -7,7 +7,7 @@ use native.Mathlib.Omega.{arith}
 use Rattle.operation.specs.Told.{writtenIn}
 use Rattle.operation.proofs.Counts as counts
 use Rattle.operation.specs.Packed.{packedWriting}
-use Rattle.roadquill.specs.Id.{idFrom}
+use Rattle.roadquill.specs.Id.{idFrom, codeFrom}
 use Rattle.roadquill.proofs.roadquill_write.Statement.{statement}
 use Rattle.roadquill.proofs.roadquill_write.Tie as tie
 
@@ -20,7 +20,7 @@ enum-known-octets c = search needs
 cast-packed : tie.Need-cast-packed
 cast-packed c =
     let a = c .before .before .before .before .before .before .before .before .before .before .args in
-    omega (arith, counts.written-short (a .kind) (idFrom (a .count) (a .first) (a .second)) (a .specifier) (a .entries) (a .table .now) (a .source .now) (length (a .output .now)) (sym (ap writtenIn (c .before .octets .given .1)) ∙ c .before .before .before .before .before .write .ensures .0))
+    omega (arith, counts.written-short (a .kind) (idFrom (a .count) (a .first) (a .second)) (codeFrom (a .code) (a .problem)) (a .entries) (a .table .now) (a .source .now) (length (a .output .now)) (sym (ap writtenIn (c .before .octets .given .1)) ∙ c .before .before .before .before .before .write .ensures .0))
 
 packed-requires : tie.Need-packed-requires
 packed-requires c κs = search needs

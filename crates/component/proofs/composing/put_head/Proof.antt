@@ -2,6 +2,8 @@
 -- Assumes nothing.
 use mathlib.Core.List.{[], _∷_}
 use lib.ListN.{length-set}
+use Rattle.component.specs.Composed.{element}
+use Rattle.component.specs.Table.{idOctets}
 use Rattle.component.specs.inner.Emitting.{headOctets}
 use native.Mathlib.Omega.{arith}
 use Rattle.component.proofs.Composition.{head-room}
@@ -15,11 +17,11 @@ slice-write-out c = omega (arith, head-room _ _ _ _ _ (c .before .pre .3))
 put-length-requires : tie.Need-put-length-requires
 put-length-requires c κs = simp length-set (omega (arith, head-room _ _ _ _ _ (c .before .before .pre .3)))
 
-put-id-requires : tie.Need-put-id-requires
-put-id-requires c κs = omega (arith, head-room _ _ _ _ _ (c .before .before .before .before .before .before .pre .3), simp length-set at (c .before .before .before .put-length .kept .0))
+put-few-requires : tie.Need-put-few-requires
+put-few-requires c κs = omega (arith, head-room _ _ _ _ _ (c .before .before .before .before .before .before .pre .3), simp length-set at (c .before .before .before .put-length .kept .0))
 
-put-operation-requires : tie.Need-put-operation-requires
-put-operation-requires c κs =
+put-code-requires : tie.Need-put-code-requires
+put-code-requires c κs =
     let sized = c .before .before .before .before .before .before .before in
     omega (arith, head-room _ _ _ _ _ (sized .before .before .before .pre .3), simp length-set at (sized .put-length .kept .0))
 
@@ -42,16 +44,17 @@ same-length : tie.Need-same-length
 same-length c = omega (arith, simp length-set at (c .before .before .before .before .before .before .before .before .before .before .before .before .before .before .put-length .kept .0), simp length-set at (c .before .before .put-length2 .kept .0))
 
 returns : tie.Need-returns
-unfolding headOctets
+unfolding headOctets idOctets
 returns c =
     let coded = c .before .before .before .before .before .before in
     let named = coded .before .before .before .before in
     let sized = named .before .before .before .before in
-    let room = head-room _ _ _ _ _ (sized .before .before .before .pre .3) in
+    let room = head-room _ (sized .before .before .before .args .id) _ _ _ (sized .before .before .before .pre .3) in
     let kept = simp length-set at (sized .put-length .kept .0) in
-    then (then (then (then (then (stored (_ ∷ []) _ _ (omega arith)) (sized .put-length .ensures) (omega arith))
-    (named .put-id .ensures) (omega arith))
-    (coded .put-operation .ensures) (omega arith))
+    then (then (then (then {g = element (0xCF ∷ []) (idOctets (sized .before .before .before .args .id))}
+    (then (stored (_ ∷ []) _ _ (omega arith)) (sized .put-length .ensures) (omega arith))
+    (named .put-few .ensures) (omega arith))
+    (coded .put-code .ensures) (omega arith))
     (stored (_ ∷ []) _ _ (omega arith)) (omega arith))
     (c .before .before .put-length2 .ensures) (omega arith)
 
@@ -61,8 +64,8 @@ put-head-spec =
     (tie.spec
     slice-write-out
     put-length-requires
-    put-id-requires
-    put-operation-requires
+    put-few-requires
+    put-code-requires
     slice-write-out-2
     add-put-length
     put-length-requires-2

@@ -1,0 +1,2 @@
+pub mod Table6
+pub mod Naming
