@@ -15,6 +15,7 @@ use Rattle.component.specs.Composed.{setOf, composed}
 use Rattle.component.specs.Needed.{setSize, bodySize, octetsNeeded}
 use Rattle.component.specs.Composing.{entriesOf, Sizes, measured, octetsOf, composing}
 use Rattle.element.specs.Output.{written, outputAfter}
+use Rattle.component.specs.Types.{Typed}
 use Rattle.component.specs.Table.{width, parametersFrom, componentOf}
 use Rattle.component.specs.inner.Emitting.{Put, headOctets, AllStand}
 use Rattle.component.proofs.Typing.{two-at-most}
@@ -88,10 +89,10 @@ module _ (kind : ℕ) (id : D.Id) (count : ℕ) (t : List ℕ) (source : Octets)
           ∙ composition.whole kind id code (parametersFrom 0 count t source) (f .ready .allowed) (f .ready .short) ∙ sym (f .whole-is)
 
       module _ (h : whole ≤ length out) where
-        pub head-ready : (id .count ≤ 2) × (body < 65536) × (set < 65536) × (length (headOctets kind id code body set) ≤ length out)
+        pub head-ready : Typed kind × (id .count ≤ 2) × (body < 65536) × (set < 65536) × (length (headOctets kind id code body set) ≤ length out)
         head-ready =
             let s : body ≤ 4096 = rw (f .body-is) (composition.short-body kind (id .count) (parametersFrom 0 count t source) (f .ready .short)) in
-            (two-at-most (f .ready .allowed), omega arith, omega (arith, short-set), omega (arith, lengths))
+            (f .ready .allowed .0, two-at-most (f .ready .allowed), omega arith, omega (arith, short-set), omega (arith, lengths))
 
         module _ {next : ℕ} {mid : Octets} (p : Put (headOctets kind id code body set) 0 out next mid) where
           pub set-ready : length mid ≡ length out → (count ≤ 64) × (width * count ≤ length t) × AllStand count t source

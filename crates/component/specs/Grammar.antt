@@ -37,7 +37,7 @@ pub data Coded : Coding → (code : Octets) → Octets → Type 0 where
   present : {octet number size : ℕ} {family : Bool} {code s : Octets} → length code ≡ size →
       Element (octet ∷ []) (withFamily family code) s → Coded (coded octet number family size) code s
 
--- the component ID, the code and the set of parameters, in the element of the type
+-- the elements of the component ID, of the code and of the set of parameters, in that of the type
 pub record Laid (c : Component) (s : Octets) : Type 0 where
   pub id : Octets
   pub code : Octets

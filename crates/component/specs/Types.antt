@@ -12,6 +12,7 @@ pub data Coding : Type 0 where
   uncoded : Coding
   coded : (identifier number : ℕ) (family : Bool) (size : ℕ) → Coding
 
+-- how many ID octets there may be, and the code
 pub record Format : Type 0 where
   pub fewest : ℕ
   pub most : ℕ
@@ -37,6 +38,7 @@ REJECT = record { fewest = 0; most = 1; coding = coded 0xD5 21 false 2 }
 abbrev pub Typed : ℕ → Type 0
 Typed kind = (0xE9 ≤ kind) × (kind ≤ 0xEC)
 
+-- where the octet is no type, nothing is asked of its format
 unfoldable pub formatOf : (kind : ℕ) → Format
 formatOf kind = if (eqb kind 0xE9) INVOKE (if (eqb kind 0xEB) ERROR (if (eqb kind 0xEC) REJECT RESULT))
 

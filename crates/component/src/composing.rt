@@ -14,7 +14,7 @@ ghost use lib.ListN.{length, take, drop};
 ghost use Rattle.element.specs.Length.{shortest};
 ghost use Rattle.element.specs.Identifier.{identifier, identifierSize};
 ghost use Rattle.element.specs.Encoded.{octetsIn};
-ghost use Rattle.component.specs.Types.{codingOf};
+ghost use Rattle.component.specs.Types.{Typed, codingOf};
 ghost use Rattle.component.specs.Composed.{element, setOf};
 ghost use Rattle.component.specs.Needed.{elementSize, codingSize, bodySize};
 ghost use Rattle.component.specs.Composing.{
@@ -310,29 +310,29 @@ fn put_few(out: &mut [u8], at: usize, octet: u8, count: u8, first: u8, second: u
     at + 4
 }
 
-// The element of the code: behind the family in an INVOKE; a RESULT has none.
+// The element of the code, as the type has it: behind the family in an INVOKE, and none in a RESULT.
 fn put_code(out: &mut [u8], at: usize, kind: u8, code: Code) -> usize
-    requires { ⌜ at + length (codedOctets kind code) ≤ length (now out) ⌝ }
+    requires { ⌜ Typed kind × (at + length (codedOctets kind code) ≤ length (now out)) ⌝ }
     ensures { λ r. ⌜ Put (codedOctets kind code) at (now (out .entry)) r (now (out .exit)) ⌝ }
 {
     let first = code.first;
     let second = code.second;
-    if kind == 0xE9 {
+    if kind == 0xEA {
+        return at;
+    }
+    if kind < 0xEA {
         return put_few(out, at, 0xD1, 2, 9, first);
     }
-    if kind == 0xEB {
+    if kind < 0xEC {
         return put_few(out, at, 0xD4, 1, first, 0);
     }
-    if kind == 0xEC {
-        return put_few(out, at, 0xD5, 2, first, second);
-    }
-    at
+    put_few(out, at, 0xD5, 2, first, second)
 }
 
 // All that stands before the parameters: the contents of the type's element take `body` octets, and the parameters
 // `set`.
 fn put_head(kind: u8, id: Id, code: Code, body: usize, set: usize, out: &mut [u8]) -> usize
-    requires { ⌜ (id .count ≤ 2) × (body < 65536) × (set < 65536)
+    requires { ⌜ Typed kind × (id .count ≤ 2) × (body < 65536) × (set < 65536)
         × (length (headOctets kind id code body set) ≤ length (now out)) ⌝ }
     ensures { λ r. ⌜ Put (headOctets kind id code body set) 0 (now (out .entry)) r (now (out .exit)) ⌝ }
 {

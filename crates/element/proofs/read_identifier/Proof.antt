@@ -10,12 +10,6 @@ use Rattle.element.proofs.read_identifier.Tie as tie
 returns : tie.Need-returns
 returns c = no-octet _ (c .if1 .taken)
 
-shared-slice-read-double : tie.Need-shared-slice-read-double
-shared-slice-read-double c = search needs
-
-double-requires : tie.Need-double-requires
-double-requires c κs = search needs
-
 returns-2 : tie.Need-returns-2
 returns-2 c = other-class _ _ (c .before .double .ensures .0) (omega arith) (λ z. omega arith)
 
@@ -25,9 +19,6 @@ returns-3 c = other-class _ _ (c .before .before .double .ensures .0) (omega ari
 returns-4 : tie.Need-returns-4
 returns-4 c = low-bits _ _ (c .before .before .before .double .ensures .0) (omega arith) (omega arith) (c .if4 .taken)
 
-scan-requires : tie.Need-scan-requires
-scan-requires c κs = search needs
-
 returns-5 : tie.Need-returns-5
 returns-5 c = c .scan .ensures ∙ all-ones _ _ (c .before .before .before .before .double .ensures .0) (omega arith) (omega arith) (c .before .if4 .left)
 
@@ -36,10 +27,9 @@ read-identifier-spec =
     tie.close
     (tie.spec
     returns
-    shared-slice-read-double
-    double-requires
+    (λ c. search needs) (λ c κs. search needs)
     returns-2
     returns-3
     returns-4
-    scan-requires
+    (λ c κs. search needs)
     returns-5)

@@ -18,9 +18,6 @@ add-end c = record { fits = omega (arith, inside (search needs) (c .before .name
 part-put-end : tie.Need-part-put-end
 part-put-end c = omega (arith, inside (search needs) (c .before .before .name .ensures))
 
-put-requires : tie.Need-put-requires
-put-requires c κs = search needs
-
 returns-2 : tie.Need-returns-2
 unfolding namedIn table6 octetsOf namesIn names
 returns-2 c =
@@ -34,9 +31,7 @@ put-name-spec =
     (λ c κs. search needs)
     returns
     add-end
-    (λ c. search needs)
-    (λ c. search needs)
+    (λ c. search needs) (λ c. search needs)
     part-put-end
-    put-requires
-    (λ c. search needs)
+    (λ c κs. search needs) (λ c. search needs)
     returns-2)

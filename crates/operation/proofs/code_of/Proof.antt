@@ -57,15 +57,6 @@ coded c second e =
     let (typed, room, _) = c .before .pre in
     rw (first c, e, two (a .octets .now) (a .heading .code) room) (tells _ _ _ _ _ typed)
 
-shared-slice-read-first : tie.Need-shared-slice-read-first
-shared-slice-read-first c = search needs
-
-add-second : tie.Need-add-second
-add-second c = search needs
-
-shared-slice-read-second : tie.Need-shared-slice-read-second
-shared-slice-read-second c = search needs
-
 returns : tie.Need-returns
 returns c = coded (c .before .before) _ (simp (eq-eqb _ 0xEC (c .before .if2 .taken)))
 
@@ -73,4 +64,9 @@ returns-2 : tie.Need-returns-2
 returns-2 c = coded (c .before) 0 (simp (ne-eqb _ 0xEC (c .if2 .left)))
 
 pub code-of-spec : {M : Type 1} → statement M
-code-of-spec = tie.close (tie.spec shared-slice-read-first add-second shared-slice-read-second returns returns-2)
+code-of-spec =
+    tie.close
+    (tie.spec
+    (λ c. search needs) (λ c. search needs) (λ c. search needs)
+    returns
+    returns-2)

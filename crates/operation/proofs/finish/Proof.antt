@@ -7,56 +7,20 @@ use Rattle.operation.specs.inner.Finishing.{detailOf, finished, tableFin
 use Rattle.operation.proofs.finish.Statement.{statement}
 use Rattle.operation.proofs.finish.Tie as tie
 
-enum-known-judged : tie.Need-enum-known-judged
-enum-known-judged c = search needs
-
-mul-copy-numbers : tie.Need-mul-copy-numbers
-mul-copy-numbers c = search needs
-
-copy-numbers-requires : tie.Need-copy-numbers-requires
-copy-numbers-requires c κs = search needs
-
-id-of-requires : tie.Need-id-of-requires
-id-of-requires c κs = search needs
-
-code-of-requires : tie.Need-code-of-requires
-code-of-requires c κs = search needs
-
 sub-t16 : tie.Need-sub-t16
 sub-t16 c =
     let p = c .before .before .before .before .before .before .before in
     omega (arith, rw (p .judged .given .1) at (p .before .before .before .before .before .pre .4))
-
-enum-told : tie.Need-enum-told
-enum-told c = search needs
-
-operation-place-requires : tie.Need-operation-place-requires
-operation-place-requires c κs = search needs
-
-enum-known-judged-2 : tie.Need-enum-known-judged-2
-enum-known-judged-2 c = search needs
 
 place-of-requires : tie.Need-place-of-requires
 place-of-requires c κs =
     let p = c .before in
     omega (arith, rw (p .judged2 .given .1) at (p .before .before .before .before .before .pre .4))
 
-enum-known-judged-3 : tie.Need-enum-known-judged-3
-enum-known-judged-3 c = search needs
-
-cast-t21 : tie.Need-cast-t21
-cast-t21 c = search needs
-
-enum-known-judged-4 : tie.Need-enum-known-judged-4
-enum-known-judged-4 c = search needs
-
 place-of-requires-2 : tie.Need-place-of-requires-2
 place-of-requires-2 c κs =
     let p = c .before in
     omega (arith, rw (p .judged4 .given .1) at (p .before .before .before .before .before .pre .4))
-
-same-length : tie.Need-same-length
-same-length c = search needs
 
 returns : tie.Need-returns
 unfolding finished tableFinished
@@ -84,21 +48,14 @@ pub finish-spec : {M : Type 1} → statement M
 finish-spec =
     tie.close
     (tie.spec
-    enum-known-judged
-    mul-copy-numbers
-    copy-numbers-requires
-    id-of-requires
-    code-of-requires
+    (λ c. search needs) (λ c. search needs) (λ c κs. search needs) (λ c κs. search needs)
+    (λ c κs. search needs)
     sub-t16
-    enum-told
-    operation-place-requires
-    enum-known-judged-2
+    (λ c. search needs) (λ c κs. search needs) (λ c. search needs)
     place-of-requires
-    enum-known-judged-3
-    cast-t21
-    enum-known-judged-4
+    (λ c. search needs) (λ c. search needs) (λ c. search needs)
     place-of-requires-2
-    same-length
+    (λ c. search needs)
     returns
     returns-2
     returns-3

@@ -9,12 +9,6 @@ use Rattle.component.proofs.Parts.{empty, single, pair}
 use Rattle.operation.proofs.id_of.Statement.{statement}
 use Rattle.operation.proofs.id_of.Tie as tie
 
-add-if1 : tie.Need-add-if1
-add-if1 c = search needs
-
-shared-slice-read-t8 : tie.Need-shared-slice-read-t8
-shared-slice-read-t8 c = search needs
-
 returns : tie.Need-returns
 unfolding idOf
 returns c =
@@ -27,15 +21,6 @@ returns-2 c =
     let a = c .before .before .args in
     rw (empty (a .octets .now) (a .heading .id) (a .heading .behind) (omega arith))
 
-shared-slice-read-t10 : tie.Need-shared-slice-read-t10
-shared-slice-read-t10 c = search needs
-
-add-t5 : tie.Need-add-t5
-add-t5 c = search needs
-
-shared-slice-read-t12 : tie.Need-shared-slice-read-t12
-shared-slice-read-t12 c = search needs
-
 returns-3 : tie.Need-returns-3
 unfolding idOf
 returns-3 c =
@@ -47,11 +32,8 @@ pub id-of-spec : {M : Type 1} → statement M
 id-of-spec =
     tie.close
     (tie.spec
-    add-if1
-    shared-slice-read-t8
+    (λ c. search needs) (λ c. search needs)
     returns
     returns-2
-    shared-slice-read-t10
-    add-t5
-    shared-slice-read-t12
+    (λ c. search needs) (λ c. search needs) (λ c. search needs)
     returns-3)

@@ -78,47 +78,20 @@ reached c =
 returns : tie.Need-returns
 returns c = reader.too-short _ _ _ _ (c .if1 .taken)
 
-head-from-requires : tie.Need-head-from-requires
-head-from-requires c κs = search needs
-
-enum-known-heading : tie.Need-enum-known-heading
-enum-known-heading c = search needs
-
-slice-aggregate-parameters-from : tie.Need-slice-aggregate-parameters-from
-slice-aggregate-parameters-from c = search needs
-
 parameters-from-requires : tie.Need-parameters-from-requires
 parameters-from-requires c κs = omega (arith, bounded (c .before .before))
-
-enum-known-count : tie.Need-enum-known-count
-enum-known-count c = search needs
 
 shared-slice-read-operation : tie.Need-shared-slice-read-operation
 shared-slice-read-operation c = omega (arith, bounded (behind (c .before .before .before)))
 
-slice-aggregate-judge-operation : tie.Need-slice-aggregate-judge-operation
-slice-aggregate-judge-operation c = search needs
-
 judge-operation-requires : tie.Need-judge-operation-requires
 judge-operation-requires c κs = let f = few (c .before .before .before) in (search needs, search needs)
-
-slice-aggregate-finish : tie.Need-slice-aggregate-finish
-slice-aggregate-finish c = search needs
 
 finish-requires : tie.Need-finish-requires
 finish-requires c κs =
     let p = c .before .before .before .before .before .before in
     let b = bounded (behind p) in
     ((b .typed, b .ordered, b .few, b .inside, b .coded, b .short), few p, search needs, search needs, reached (c .before .before) .0)
-
-enum-known-number : tie.Need-enum-known-number
-enum-known-number c = search needs
-
-enum-known-number-2 : tie.Need-enum-known-number-2
-enum-known-number-2 c = search needs
-
-same-length : tie.Need-same-length
-same-length c = search needs
 
 returns-2 : tie.Need-returns-2
 returns-2 c =
@@ -142,19 +115,15 @@ read-from-spec =
     tie.close
     (tie.spec
     returns
-    head-from-requires
-    enum-known-heading
-    slice-aggregate-parameters-from
+    (λ c κs. search needs) (λ c. search needs) (λ c. search needs)
     parameters-from-requires
-    enum-known-count
+    (λ c. search needs)
     shared-slice-read-operation
-    slice-aggregate-judge-operation
+    (λ c. search needs)
     judge-operation-requires
-    slice-aggregate-finish
+    (λ c. search needs)
     finish-requires
-    enum-known-number
-    enum-known-number-2
-    same-length
+    (λ c. search needs) (λ c. search needs) (λ c. search needs)
     returns-2
     returns-3
     returns-4)

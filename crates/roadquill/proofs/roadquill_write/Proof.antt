@@ -11,35 +11,14 @@ use Rattle.roadquill.specs.Id.{idFrom, codeFrom}
 use Rattle.roadquill.proofs.roadquill_write.Statement.{statement}
 use Rattle.roadquill.proofs.roadquill_write.Tie as tie
 
-write-requires : tie.Need-write-requires
-write-requires c κs = search needs
-
-enum-known-octets : tie.Need-enum-known-octets
-enum-known-octets c = search needs
-
 cast-packed : tie.Need-cast-packed
 cast-packed c =
     let a = c .before .before .before .before .before .before .before .before .before .before .args in
     omega (arith, counts.written-short (a .kind) (idFrom (a .count) (a .first) (a .second)) (codeFrom (a .code) (a .problem)) (a .entries) (a .table .now) (a .source .now) (length (a .output .now)) (sym (ap writtenIn (c .before .octets .given .1)) ∙ c .before .before .before .before .before .write .ensures .0))
 
-packed-requires : tie.Need-packed-requires
-packed-requires c κs = search needs
-
-enum-known-number : tie.Need-enum-known-number
-enum-known-number c = search needs
-
-packed-requires-2 : tie.Need-packed-requires-2
-packed-requires-2 c κs = search needs
-
-same-length : tie.Need-same-length
-same-length c = search needs
-
 returns : tie.Need-returns
 unfolding packedWriting
 returns c = (c .packed .ensures ∙ ap packedWriting (sym (ap writtenIn (c .before .before .octets .given .1)) ∙ c .before .before .before .before .before .before .write .ensures .0), c .before .before .before .before .before .before .write .ensures .1)
-
-same-length-2 : tie.Need-same-length-2
-same-length-2 c = search needs
 
 returns-2 : tie.Need-returns-2
 unfolding packedWriting
@@ -49,13 +28,9 @@ pub roadquill-write-spec : {M : Type 1} → statement M
 roadquill-write-spec =
     tie.close
     (tie.spec
-    write-requires
-    enum-known-octets
+    (λ c κs. search needs) (λ c. search needs)
     cast-packed
-    packed-requires
-    enum-known-number
-    packed-requires-2
-    same-length
+    (λ c κs. search needs) (λ c. search needs) (λ c κs. search needs) (λ c. search needs)
     returns
-    same-length-2
+    (λ c. search needs)
     returns-2)

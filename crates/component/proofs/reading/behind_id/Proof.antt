@@ -15,23 +15,8 @@ use Rattle.component.proofs.reading.behind_id.Tie as tie
 found : (c : tie.After-code) → let a = c .before .before .before .before .args in codeAt (a .s .now) (codingOf (a .kind)) (a .behind) (a .end) ≡ accepted (span (c .code .given .0 .0) (c .code .given .0 .1 .0))
 found c = sym (c .before .before .code-at .ensures) ∙ ap spanIn (c .code .given .1)
 
-code-at-requires : tie.Need-code-at-requires
-code-at-requires c κs = search needs
-
-enum-known-code : tie.Need-enum-known-code
-enum-known-code c = search needs
-
 set-at-requires : tie.Need-set-at-requires
 set-at-requires c κs = omega (arith, code-inside (c .before .before .before .before .before .args .s .now) (λ i. c .before .before .before .before .shared-slice-known .given i .fits) (codingOf (c .before .before .before .before .before .args .kind)) (omega arith) (found (c .before)))
-
-enum-known-set : tie.Need-enum-known-set
-enum-known-set c = search needs
-
-enum-known-number : tie.Need-enum-known-number
-enum-known-number c = search needs
-
-enum-known-number-2 : tie.Need-enum-known-number-2
-enum-known-number-2 c = search needs
 
 returns : tie.Need-returns
 unfolding behindId
@@ -49,12 +34,9 @@ pub behind-id-spec : {M : Type 1} → statement M
 behind-id-spec =
     tie.close
     (tie.spec
-    code-at-requires
-    enum-known-code
+    (λ c κs. search needs) (λ c. search needs)
     set-at-requires
-    enum-known-set
-    enum-known-number
-    enum-known-number-2
+    (λ c. search needs) (λ c. search needs) (λ c. search needs)
     returns
     returns-2
     returns-3)

@@ -20,17 +20,8 @@ found c = sym (c .before .before .wanted-at .ensures) ∙ ap spanIn (c .id .give
 held : (c : tie.After-id) → let a = c .before .before .before .before .args in Held (suc (a .start)) (length (a .s .now)) (span (c .id .given .0 .0) (c .id .given .0 .1 .0))
 held c = wanted-inside (c .before .before .before .before .args .s .now) (λ i. c .before .before .before .shared-slice-known .given i .fits) 0xCF 6 (found c)
 
-wanted-at-requires : tie.Need-wanted-at-requires
-wanted-at-requires c κs = search needs
-
-enum-known-id : tie.Need-enum-known-id
-enum-known-id c = search needs
-
 sub-id-fits : tie.Need-sub-id-fits
 sub-id-fits c = held (c .before) .ordered
-
-id-fits-requires : tie.Need-id-fits-requires
-id-fits-requires c κs = search needs
 
 behind-id-requires : tie.Need-behind-id-requires
 behind-id-requires c κs = omega (arith, held (c .before .before .before))
@@ -38,12 +29,6 @@ behind-id-requires c κs = omega (arith, held (c .before .before .before))
 returns : tie.Need-returns
 unfolding bodyAt
 returns c = c .behind-id .ensures ∙ simp (found (c .before .before .before .before), sym (c .before .before .id-fits .ensures) ∙ c .before .if1 .taken)
-
-cast-t13 : tie.Need-cast-t13
-cast-t13 c = search needs
-
-enum-known-number : tie.Need-enum-known-number
-enum-known-number c = search needs
 
 returns-2 : tie.Need-returns-2
 unfolding bodyAt
@@ -57,13 +42,11 @@ pub body-at-spec : {M : Type 1} → statement M
 body-at-spec =
     tie.close
     (tie.spec
-    wanted-at-requires
-    enum-known-id
+    (λ c κs. search needs) (λ c. search needs)
     sub-id-fits
-    id-fits-requires
+    (λ c κs. search needs)
     behind-id-requires
     returns
-    cast-t13
-    enum-known-number
+    (λ c. search needs) (λ c. search needs)
     returns-2
     returns-3)

@@ -12,22 +12,13 @@ returns : tie.Need-returns
 unfolding codeAt formatOf
 returns c = rw (c .if1 .taken)
 
-coded-at-requires : tie.Need-coded-at-requires
-coded-at-requires c κs = search needs
-
 returns-2 : tie.Need-returns-2
 unfolding codeAt formatOf
 returns-2 c = let k : c .before .before .before .before .args .kind ≡ 0xE9 = omega arith in rw k (c .coded-at .ensures)
 
-coded-at-requires-2 : tie.Need-coded-at-requires-2
-coded-at-requires-2 c κs = search needs
-
 returns-3 : tie.Need-returns-3
 unfolding codeAt formatOf
 returns-3 c = let k : c .before .before .before .before .before .args .kind ≡ 0xEB = omega arith in rw k (c .coded-at2 .ensures)
-
-coded-at-requires-3 : tie.Need-coded-at-requires-3
-coded-at-requires-3 c κs = search needs
 
 returns-4 : tie.Need-returns-4
 unfolding codeAt formatOf
@@ -38,9 +29,9 @@ code-at-spec =
     tie.close
     (tie.spec
     returns
-    coded-at-requires
+    (λ c κs. search needs)
     returns-2
-    coded-at-requires-2
+    (λ c κs. search needs)
     returns-3
-    coded-at-requires-3
+    (λ c κs. search needs)
     returns-4)

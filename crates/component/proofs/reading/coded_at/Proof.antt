@@ -34,20 +34,11 @@ sized : (c : tie.Else2) → let a = c .before .before .before .before .before .b
 unfolding codedAt
 sized c = simp (found (c .before .before .before), counted (c .before .before .before .before .before .before) .0, eq-eqb _ _ (c .if2 .left))
 
-wanted-at-requires : tie.Need-wanted-at-requires
-wanted-at-requires c κs = search needs
-
-enum-known-start : tie.Need-enum-known-start
-enum-known-start c = search needs
-
 sub-if2 : tie.Need-sub-if2
 sub-if2 c = held (c .before) .ordered
 
 add-if2 : tie.Need-add-if2
 add-if2 c = omega (arith, counted (c .before .before .before .before .before))
-
-cast-t20 : tie.Need-cast-t20
-cast-t20 c = search needs
 
 returns : tie.Need-returns
 unfolding codedAt
@@ -56,17 +47,8 @@ returns c = simp (found (c .before .before .before), counted (c .before .before 
 shared-slice-read-if4 : tie.Need-shared-slice-read-if4
 shared-slice-read-if4 c = omega (arith, held (c .before .before .before .before .before), rw (c .before .if3 .taken) at (counted (c .before .before .before .before .before .before .before .before) .0))
 
-cast-t24 : tie.Need-cast-t24
-cast-t24 c = search needs
-
 returns-2 : tie.Need-returns-2
 returns-2 c = rw (sized (c .before .before .before)) (simp (c .before .before .if3 .taken, ne-eqb _ 9 (c .if4 .taken)))
-
-add-t17 : tie.Need-add-t17
-add-t17 c = search needs
-
-enum-known-number : tie.Need-enum-known-number
-enum-known-number c = search needs
 
 returns-3 : tie.Need-returns-3
 returns-3 c =
@@ -82,16 +64,14 @@ pub coded-at-spec : {M : Type 1} → statement M
 coded-at-spec =
     tie.close
     (tie.spec
-    wanted-at-requires
-    enum-known-start
+    (λ c κs. search needs) (λ c. search needs)
     sub-if2
     add-if2
-    cast-t20
+    (λ c. search needs)
     returns
     shared-slice-read-if4
-    cast-t24
+    (λ c. search needs)
     returns-2
-    add-t17
-    enum-known-number
+    (λ c. search needs) (λ c. search needs)
     returns-3
     returns-4)

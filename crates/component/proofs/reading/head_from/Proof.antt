@@ -47,9 +47,6 @@ returns-2 : tie.Need-returns-2
 unfolding headAt
 returns-2 c = simp (lt-ltb _ _ (c .before .if1 .left), lt-leb _ 4096 (c .if2 .taken))
 
-shared-slice-read-kind : tie.Need-shared-slice-read-kind
-shared-slice-read-kind c = search needs
-
 returns-3 : tie.Need-returns-3
 unfolding headAt headFrom
 returns-3 c =
@@ -62,15 +59,6 @@ returns-4 c =
     let a = c .before .before .before .before .before .before .args in
     simp (lt-ltb _ _ (c .before .before .before .before .if1 .left), le-leb _ 4096 (c .before .before .before .if2 .left), unknown {kind = getD (a .octets .now) (a .from) 0} (λ (_, h). omega (arith, h, c .if4 .taken)))
 
-add-contents-at : tie.Need-add-contents-at
-add-contents-at c = search needs
-
-contents-at-requires : tie.Need-contents-at-requires
-contents-at-requires c κs = search needs
-
-enum-known-start : tie.Need-enum-known-start
-enum-known-start c = search needs
-
 cast-t23 : tie.Need-cast-t23
 cast-t23 c = omega (arith, held (c .before .before))
 
@@ -79,15 +67,6 @@ returns-5 c = simp (begun (c .before .before .before .before .before), found (c 
 
 body-at-requires : tie.Need-body-at-requires
 body-at-requires c κs = omega (arith, is-known _ (kind (c .before .before .before .before .before)), held (c .before .before))
-
-enum-known-id : tie.Need-enum-known-id
-enum-known-id c = search needs
-
-enum-known-number : tie.Need-enum-known-number
-enum-known-number c = search needs
-
-enum-known-number-2 : tie.Need-enum-known-number-2
-enum-known-number-2 c = search needs
 
 returns-6 : tie.Need-returns-6
 returns-6 c = sym (ap (bodyIn _) (c .before .id .given .1)) ∙ told (c .before .before .before)
@@ -104,18 +83,14 @@ head-from-spec =
     (tie.spec
     returns
     returns-2
-    shared-slice-read-kind
+    (λ c. search needs)
     returns-3
     returns-4
-    add-contents-at
-    contents-at-requires
-    enum-known-start
+    (λ c. search needs) (λ c κs. search needs) (λ c. search needs)
     cast-t23
     returns-5
     body-at-requires
-    enum-known-id
-    enum-known-number
-    enum-known-number-2
+    (λ c. search needs) (λ c. search needs) (λ c. search needs)
     returns-6
     returns-7
     returns-8)

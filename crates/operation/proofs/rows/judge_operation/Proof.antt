@@ -5,12 +5,6 @@ use Rattle.operation.proofs.Verdicts.{no-kind}
 use Rattle.operation.proofs.rows.judge_operation.Statement.{statement}
 use Rattle.operation.proofs.rows.judge_operation.Tie as tie
 
-judge-invoke-requires : tie.Need-judge-invoke-requires
-judge-invoke-requires c κs = search needs
-
-judge-result-requires : tie.Need-judge-result-requires
-judge-result-requires c κs = search needs
-
 returns : tie.Need-returns
 returns c = rw (c .before .match .keys1) (c .judge-invoke .ensures)
 
@@ -22,4 +16,9 @@ returns-3 c = no-kind _ _ (c .match .rest)
 
 pub judge-operation-spec : {M : Type 1} → statement M
 judge-operation-spec =
-    tie.close (tie.spec judge-invoke-requires judge-result-requires returns returns-2 returns-3)
+    tie.close
+    (tie.spec
+    (λ c κs. search needs) (λ c κs. search needs)
+    returns
+    returns-2
+    returns-3)
