@@ -21,4 +21,5 @@ codeElement (coded octet number family size) code = element (octet ∷ []) (with
 unfoldable pub composed : Component → Octets
 composed c =
     element (c .kind ∷ [])
-    (element (0xCF ∷ []) (c .id) ++ codeElement (codingOf (c .kind)) (c .code) ++ element (0xF2 ∷ []) (setOf (c .parameters)))
+    (element (0xCF ∷ []) (c .id) ++ codeElement (codingOf (c .kind)) (c .code)
+    ++ element (0xF2 ∷ []) (setOf (c .parameters)))

@@ -221,6 +221,27 @@ fn body_at(s: &[u8], kind: u8, start: usize) -> Body
     }
 }
 
+// What stands in the element of a type, with the type.
+fn headed(kind: u8, body: Body) -> Head
+    ensures { λ r. ⌜ headIn r ≡ bodyIn kind body ⌝ }
+{
+    match body {
+        Body::Found {
+            id,
+            behind,
+            code,
+            set,
+        } => Head::Found(Heading {
+            kind,
+            id,
+            behind,
+            code,
+            set,
+        }),
+        Body::Refused { number, detail } => Head::Refused { number, detail },
+    }
+}
+
 // The component that stands from `from` to the end of the octets. The type is tested here, and not by a call: so what
 // follows stays a function of its own, and the loop over the parameters keeps its registers.
 pub fn head_from(octets: &[u8], from: usize) -> Head
@@ -259,21 +280,7 @@ pub fn head_from(octets: &[u8], from: usize) -> Head
                     detail: end as u32,
                 };
             }
-            match body_at(octets, kind, start) {
-                Body::Found {
-                    id,
-                    behind,
-                    code,
-                    set,
-                } => Head::Found(Heading {
-                    kind,
-                    id,
-                    behind,
-                    code,
-                    set,
-                }),
-                Body::Refused { number, detail } => Head::Refused { number, detail },
-            }
+            headed(kind, body_at(octets, kind, start))
         }
         Span::Refused { number, detail } => Head::Refused { number, detail },
     }

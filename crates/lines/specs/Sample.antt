@@ -4,7 +4,8 @@ use mathlib.Core.List.{[], _∷_, _++_}
 use Rattle.element.specs.Octets.{Octets}
 use Rattle.element.specs.Decoded.{lengthAt, within, numbered, identifierAt}
 use Rattle.component.specs.Layout.{spanOf, contents, wanted, setAt, codedAt, codeAt, behindId, bodyAt, headFrom, headAt}
-use Rattle.component.specs.Layout.{parameter, parameterAt, parameters, layoutBehind, layoutAt, codeOctets, operationPlace}
+use Rattle.component.specs.Layout.{parameter, parameterAt, parameters, layoutBehind, layoutAt, codeOctets}
+use Rattle.component.specs.Layout.{operationPlace}
 use Rattle.component.specs.Types.{formatOf, typed, idFits}
 use Rattle.operation.specs.Row.{key, numberOf, onLine, named, repeats}
 use Rattle.operation.specs.Judge.{occurs, lastMark, once, present, single, judge, countNamed}
@@ -35,8 +36,8 @@ lines =
 pub sample : printed input ≡ headerLine ++ lines
 unfolding lengthAt within numbered identifierAt spanOf contents wanted setAt formatOf typed idFits codedAt codeAt
     behindId bodyAt headFrom headAt parameter parameterAt parameters layoutBehind layoutAt codeOctets operationPlace key
-    numberOf onLine named repeats occurs lastMark once present single judge countNamed operations find rowed rowOf itemOf
-    operationOf toldCode operationIn countOther shownOf readingAt told fieldAt digits
+    numberOf onLine named repeats occurs lastMark once present single judge countNamed operations find rowed rowOf
+    itemOf operationOf toldCode operationIn countOther shownOf readingAt told fieldAt digits
     decimal cell row lineOf after lineFor listing fills whole inputFrom inputOf printed
 sample = refl
 

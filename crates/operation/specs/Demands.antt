@@ -45,8 +45,8 @@ keyOf p = key (p .number) (p .form)
 abbrev pub Rowed : (kind : ℕ) → Type 0
 Rowed kind = (kind ≡ 0xE9) ⊎ (kind ≡ 0xEA)
 
--- the row of this operation and component type; an ERROR and a REJECT have the row of no line: it names nothing and asks
--- for nothing, so that the layout is the whole verdict
+-- the row of this operation and component type; an ERROR and a REJECT have the row of no line: it names nothing and
+-- asks for nothing, so that the layout is the whole verdict
 pub data RowFor (kind operation : ℕ) : Row → Type 0 where
   listed : {row : Row} → Rowed kind →
       List·Memᴰ (record { kind = kind; specifier = operation; row = row }) operations → RowFor kind operation row

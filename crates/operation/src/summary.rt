@@ -30,8 +30,8 @@ fn shown(kind: u8, id: Id, code: Code, all: usize, named: usize) -> u64
     256 * (kind as u64 + 256 * (id.first as u64 + 256 * (id.second as u64 + 256 * codes)))
 }
 
-// Reads as `read_from` does, and answers by one number. Accepted: octet 1 is the type, 2 and 3 are the ID octets, 4 and 5
-// the code, each 0 where absent; 6 and 7 are 16,384 times the count of ID octets, and 128 times the count of all
+// Reads as `read_from` does, and answers by one number. Accepted: octet 1 is the type, 2 and 3 are the ID octets, 4 and
+// 5 the code, each 0 where absent; 6 and 7 are 16,384 times the count of ID octets, and 128 times the count of all
 // parameters, and the count of named ones. Refused: octet 0 is the number, and 1 to 4 are the detail.
 pub fn summary_from(octets: &[u8], from: usize, specifier: u8, table: &mut [u16]) -> u64
     ensures { λ r. ⌜ (r ≡ packedReading (told (readingAt (now (octets .entry)) from specifier

@@ -24,9 +24,10 @@ pub extern "C" fn roadquill_read(component: &[u8], specifier: u8, table: &mut [u
     operation::summary_from(component, 0, specifier, table)
 }
 
-// Writes a component from a table of entries and the octets that they point into. The second octet of the code is looked
-// at in a REJECT alone, whose second problem octet it is. Octet 0 of the result is the answer, 0 where it is accepted. Octets 1 to 4 are then the count of octets written, else the detail. Only the octets that are
-// counted change, and on a refusal none.
+// Writes a component from a table of entries and the octets that they point into. The second octet of the code is
+// looked at in a REJECT alone, whose second problem octet it is. Octet 0 of the result is the answer, 0 where it is
+// accepted. Octets 1 to 4 are then the count of octets written, else the detail. Only the octets that are counted
+// change, and on a refusal none.
 #[no_mangle]
 pub extern "C" fn roadquill_write(
     kind: u8,
@@ -61,8 +62,8 @@ pub extern "C" fn roadquill_write(
 }
 
 // Puts the name of an error code at the start of a lent buffer; a code that Table 6 reserves has a name of no octets.
-// Octet 0 of the result is the answer, 0 or, where the buffer is too short, 17. Octets 1 to 4 are the count of octets of
-// the name. Only these change, and on a refusal none.
+// Octet 0 of the result is the answer, 0 or, where the buffer is too short, 17. Octets 1 to 4 are the count of octets
+// of the name. Only these change, and on a refusal none.
 #[no_mangle]
 pub extern "C" fn roadquill_error_name(code: u8, name: &mut [u8]) -> u64
     ensures { λ r. ⌜ (r ≡ packedWriting (written (naming code (length (now (name .entry))))))

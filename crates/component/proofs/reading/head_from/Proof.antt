@@ -59,8 +59,8 @@ returns-4 c =
     let a = c .before .before .before .before .before .before .args in
     simp (lt-ltb _ _ (c .before .before .before .before .if1 .left), le-leb _ 4096 (c .before .before .before .if2 .left), unknown {kind = getD (a .octets .now) (a .from) 0} (λ (_, h). omega (arith, h, c .if4 .taken)))
 
-cast-t23 : tie.Need-cast-t23
-cast-t23 c = omega (arith, held (c .before .before))
+cast-t17 : tie.Need-cast-t17
+cast-t17 c = omega (arith, held (c .before .before))
 
 returns-5 : tie.Need-returns-5
 returns-5 c = simp (begun (c .before .before .before .before .before), found (c .before .before), ne-eqb _ _ (c .if5 .taken))
@@ -69,13 +69,10 @@ body-at-requires : tie.Need-body-at-requires
 body-at-requires c κs = omega (arith, is-known _ (kind (c .before .before .before .before .before)), held (c .before .before))
 
 returns-6 : tie.Need-returns-6
-returns-6 c = sym (ap (bodyIn _) (c .before .id .given .1)) ∙ told (c .before .before .before)
+returns-6 c = c .headed .ensures ∙ told (c .before)
 
 returns-7 : tie.Need-returns-7
-returns-7 c = sym (ap (bodyIn _) (c .before .number .given .1)) ∙ told (c .before .before .before)
-
-returns-8 : tie.Need-returns-8
-returns-8 c = simp (begun (c .before .before .before .before), sym (c .before .before .before .contents-at .ensures) ∙ ap spanIn (c .before .number2 .given .1))
+returns-7 c = simp (begun (c .before .before .before .before), sym (c .before .before .before .contents-at .ensures) ∙ ap spanIn (c .before .number .given .1))
 
 pub head-from-spec : {M : Type 1} → statement M
 head-from-spec =
@@ -87,10 +84,9 @@ head-from-spec =
     returns-3
     returns-4
     (λ c. search needs) (λ c κs. search needs) (λ c. search needs)
-    cast-t23
+    cast-t17
     returns-5
     body-at-requires
-    (λ c. search needs) (λ c. search needs) (λ c. search needs)
+    (λ c κs. search needs) (λ c. search needs)
     returns-6
-    returns-7
-    returns-8)
+    returns-7)
