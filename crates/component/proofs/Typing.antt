@@ -1,10 +1,11 @@
 -- The four formats: what holds of each holds of a type's; and the tests of a type and of its ID octets say what the words
 -- say.
-use Prim.Native.Nat.{ℕ, zero, suc, _≤_}
+use Prim.Native.Nat.{ℕ, zero, suc, _<_, _≤_}
 use mathlib.Core.Path.{_≡_, refl}
 use mathlib.Core.Bool.{Bool, true, false, _&&_, and-eq-true-iff}
 use lib.Dec.{leb, eqb}
 use borrow.Author.Tests.{le-leb, lt-leb, leb-true, ne-eqb}
+use native.Mathlib.Decide.{decLt}
 use native.Mathlib.Omega.{arith}
 use Rattle.element.specs.Octets.{if}
 use Rattle.component.specs.Types.{Format, INVOKE, RESULT, ERROR, REJECT, formatOf, codingOf, codeSize, Typed, Allowed, typed, idFits}
@@ -22,6 +23,16 @@ of-each P invoke result error reject kind = go (eqb kind 0xE9) (eqb kind 0xEB) (
 pub result : (kind : ℕ) → (kind ≡ 0xE9 → ⊥) → (kind ≡ 0xEB → ⊥) → (kind ≡ 0xEC → ⊥) → formatOf kind ≡ RESULT
 unfolding formatOf
 result kind h k l = simp (ne-eqb kind 0xE9, ne-eqb kind 0xEB, ne-eqb kind 0xEC)
+
+-- the same of the types' octets
+pub of-typed : (P : ℕ → Type 0) → P 0xE9 → P 0xEA → P 0xEB → P 0xEC → (kind : ℕ) → Typed kind → P kind
+of-typed P invoke result error reject kind t = go (decLt kind 0xEA) (decLt kind 0xEB) (decLt kind 0xEC)
+  where
+    go : Dec (kind < 0xEA) → Dec (kind < 0xEB) → Dec (kind < 0xEC) → P kind
+    go (yes a) _ _ = let e : kind ≡ 0xE9 = omega arith in rw e invoke
+    go (no a) (yes b) _ = let e : kind ≡ 0xEA = omega arith in rw e result
+    go (no a) (no b) (yes d) = let e : kind ≡ 0xEB = omega arith in rw e error
+    go (no a) (no b) (no d) = let e : kind ≡ 0xEC = omega arith in rw e reject
 
 -- ---- at most two octets
 pub two-octets : (kind : ℕ) → codeSize (codingOf kind) ≤ 2

@@ -28,6 +28,7 @@ use Rattle.component.proofs.Composes.{composes, is-composed, laid-composable}
 use Rattle.component.proofs.Entries.{as-many, holds, shown-are}
 use Rattle.component.proofs.Shown.{standing-show}
 use Rattle.component.proofs.Complete.{Reads}
+use Rattle.component.proofs.Typing.{of-typed}
 use Rattle.component.proofs.Deciding.{ask, decTyped, decAllowed}
 use Rattle.component.proofs.OneFault.{laid-out, faulty}
 use Rattle.operation.specs.Row.{Row}
@@ -211,11 +212,7 @@ module _ (kind : ℕ) (code : E.Code) where
 
   told-again : Typed kind → codeOf (toldCode kind (writtenCode kind code) (code .first)) ≡ heeded kind code
   unfolding codeOf toldCode writtenCode formatOf heeded
-  told-again (h, k) =
-      ask (ℕ-discrete kind 0xE9) (λ e. rw e refl) λ a.
-      ask (ℕ-discrete kind 0xEA) (λ e. rw e refl) λ b.
-      ask (ℕ-discrete kind 0xEB) (λ e. rw e refl) λ c.
-      let e : kind ≡ 0xEC = omega arith in rw e refl
+  told-again = of-typed (λ kind. codeOf (toldCode kind (writtenCode kind code) (code .first)) ≡ heeded kind code) refl refl refl refl kind
 
 module _ (s : Octets) (given : ℕ) (t : List ℕ) (out : Octets) {c : Component} {row : Row} (r : Right s given t c row) (room : length s ≤ length out) where
   -- what a reading of `s` hands on

@@ -9,7 +9,6 @@ use lib.ListN.{length, getD, take, drop}
 use lib.Seq.{drop-cons}
 use lib.Dec.{eqb}
 use borrow.Author.Tests.{eq-eqb, ne-eqb}
-use native.Mathlib.Decide.{decLt}
 use native.Mathlib.Numerals.{add-one}
 use native.Mathlib.Omega.{arith}
 use Rattle.element.specs.Octets.{Octets, if}
@@ -17,19 +16,10 @@ use Rattle.component.specs.Types.{Typed, formatOf, codingOf, codeSize}
 use Rattle.component.specs.Table.{codeOf}
 use Rattle.component.specs.Layout.{codeOctets}
 use Rattle.component.specs.Told.{headSaid}
+use Rattle.component.proofs.Typing.{of-typed}
 use Rattle.operation.specs.Codes.{toldCode}
 use Rattle.operation.proofs.code_of.Statement.{statement}
 use Rattle.operation.proofs.code_of.Tie as tie
-
--- what holds of each type holds of one that is typed
-each : (P : ℕ → Type 0) → P 0xE9 → P 0xEA → P 0xEB → P 0xEC → (kind : ℕ) → Typed kind → P kind
-each P invoke result error reject kind t = go (decLt kind 0xEA) (decLt kind 0xEB) (decLt kind 0xEC)
-  where
-    go : Dec (kind < 0xEA) → Dec (kind < 0xEB) → Dec (kind < 0xEC) → P kind
-    go (yes a) _ _ = let e : kind ≡ 0xE9 = omega arith in rw e invoke
-    go (no a) (yes b) _ = let e : kind ≡ 0xEA = omega arith in rw e result
-    go (no a) (no b) (yes d) = let e : kind ≡ 0xEB = omega arith in rw e error
-    go (no a) (no b) (no d) = let e : kind ≡ 0xEC = omega arith in rw e reject
 
 -- of two octets that stand first
 abbrev Tells : (given x y : ℕ) (rest : Octets) (kind : ℕ) → Type 0
@@ -38,7 +28,7 @@ Tells given x y rest kind =
 
 tells : (given x y : ℕ) (rest : Octets) (kind : ℕ) → Typed kind → Tells given x y rest kind
 unfolding codeOf toldCode formatOf
-tells given x y rest = each (Tells given x y rest) refl refl refl refl
+tells given x y rest = of-typed (Tells given x y rest) refl refl refl refl
 
 two : (s : Octets) (at : ℕ) → at + 1 < length s → drop at s ≡ getD s at 0 ∷ getD s (at + 1) 0 ∷ drop (suc (suc at)) s
 two s at h = rw (add-one, drop-cons s at 0 (omega arith), drop-cons s (suc at) 0 (omega arith))
