@@ -259,7 +259,7 @@ fn judge_result(specifier: u8, table: &[u16], count: usize) -> Judged
     }
 }
 
-// What the row of an operation says of `count` entries of a table: nothing of an ERROR and of a REJECT, which have none.
+// What the row of an operation says of `count` entries of a table: nothing of an ERROR and a REJECT, which have none.
 pub(crate) fn judge_operation(kind: u8, operation: u8, table: &[u16], count: usize) -> Judged
     requires { ⌜ (width * count ≤ length (now table)) × (count ≤ 64) ⌝ }
     ensures { λ r. ⌜ judgedIn r ≡ verdict kind operation (itemsFrom (now (table .entry)) 0 count) ⌝ }
