@@ -1,7 +1,8 @@
 /*
  * The header as a drafter uses it, in C or C++: chart A, an error and a reject
- * read, taken apart and written again; refusals of each kind of call, a table
- * too short among them; and the name of every error octet.
+ * read, taken apart and written again, chart A with padded lengths too; refusals
+ * of each kind of call, a table too short among them; and the name of every
+ * error octet.
  * Status 0 where all is as it must be.
  */
 #include "roadquill.h"
@@ -15,6 +16,12 @@
 static const uint8_t chart[] = {
     0xE9, 0x1E, 0xCF, 0x01, 0x05, 0xD1, 0x02, 0x09, 0x04, 0xF2, 0x15, 0x85, 0x00, 0x86, 0x02, 0x01,
     0x07, 0x88, 0x05, 0x21, 0x43, 0x65, 0x87, 0x09, 0x82, 0x02, 0x00, 0x11, 0x83, 0x02, 0x00, 0x12
+};
+/* The same with every length padded. */
+static const uint8_t padded[] = {
+    0xE9, 0x81, 0x2A, 0xCF, 0x82, 0x00, 0x01, 0x05, 0xD1, 0x81, 0x02, 0x09, 0x04, 0xF2, 0x82, 0x00,
+    0x1C, 0x85, 0x82, 0x00, 0x00, 0x86, 0x81, 0x02, 0x01, 0x07, 0x88, 0x82, 0x00, 0x05, 0x21, 0x43,
+    0x65, 0x87, 0x09, 0x82, 0x81, 0x02, 0x00, 0x11, 0x83, 0x81, 0x02, 0x00, 0x12
 };
 static const uint8_t result[] = { 0xEA, 0x07, 0xCF, 0x01, 0x05, 0xF2, 0x02, 0x85, 0x00 };
 static const uint8_t error[] = { 0xEB, 0x08, 0xCF, 0x01, 0x05, 0xD4, 0x01, 0x81, 0xF2, 0x00 };
@@ -58,8 +65,10 @@ static void refused(const char *what, uint64_t got, unsigned long answer, unsign
     same("its detail", roadquill_detail(got), detail);
 }
 
-/* Reads, takes the result apart, and writes what was read. */
-static void trip(const uint8_t *component, size_t octets, uint8_t specifier, struct shown expected)
+/* Reads, takes the result apart, and writes what was read, which gives the component with its
+ * lengths in the shortest form. */
+static void trip(const uint8_t *component, size_t octets, uint8_t specifier, struct shown expected,
+                 const uint8_t *shortest, size_t shortest_octets)
 {
     uint64_t got = roadquill_read(component, octets, specifier, table, ROADQUILL_NUMBERS);
 
@@ -79,10 +88,17 @@ static void trip(const uint8_t *component, size_t octets, uint8_t specifier, str
     got = roadquill_write(roadquill_type(got), roadquill_id_count(got), roadquill_id_first(got),
                           roadquill_id_second(got), roadquill_code_first(got),
                           roadquill_code_second(got), roadquill_all(got), table, ROADQUILL_NUMBERS,
-                          component, octets, output, sizeof output);
+                          component, octets, output, octets);
     same("the writer's answer", roadquill_answer(got), ROADQUILL_ACCEPTED);
-    same("the octet count", roadquill_octets_written(got), octets);
-    same("the octets", memcmp(output, component, octets) == 0, 1);
+    same("the octet count", roadquill_octets_written(got), shortest_octets);
+    same("the octets", memcmp(output, shortest, shortest_octets) == 0, 1);
+}
+
+/* Of a component whose lengths are shortest. */
+static void same_trip(const uint8_t *component, size_t octets, uint8_t specifier,
+                      struct shown expected)
+{
+    trip(component, octets, specifier, expected, component, octets);
 }
 
 static void trips(void)
@@ -93,11 +109,12 @@ static void trips(void)
     const struct shown of_reject = { ROADQUILL_REJECT, 0, 0, 0, 1, 2, 2, 0, 2 };
     const struct shown of_two_ids = { ROADQUILL_INVOKE, 2, 5, 6, 37, 0, 6, 4, 2 };
 
-    trip(chart, sizeof chart, 0, of_chart);
-    trip(result, sizeof result, 26, of_result);
-    trip(error, sizeof error, 4, of_error);
-    trip(reject, sizeof reject, 4, of_reject);
-    trip(two_ids, sizeof two_ids, 0, of_two_ids);
+    same_trip(chart, sizeof chart, 0, of_chart);
+    trip(padded, sizeof padded, 0, of_chart, chart, sizeof chart);
+    same_trip(result, sizeof result, 26, of_result);
+    same_trip(error, sizeof error, 4, of_error);
+    same_trip(reject, sizeof reject, 4, of_reject);
+    same_trip(two_ids, sizeof two_ids, 0, of_two_ids);
 }
 
 static void entries(void)
@@ -113,16 +130,26 @@ static void entries(void)
     same("the number of TargetCellID", last[0], 3);
     same("the start of TargetCellID", last[2], 30);
     same("the place of TargetCellID", last[4], 28);
+    roadquill_read(padded, sizeof padded, 0, table, ROADQUILL_NUMBERS);
+    same("the start of a padded TargetCellID", last[2], 43);
+    same("the length of a padded TargetCellID", last[3], 2);
+    same("the place of a padded TargetCellID", last[4], 40);
 }
 
 static void refused_readings(void)
 {
+    const uint8_t overrun[] = { 0xE9, 0x81, 0x05 };
     uint8_t other[sizeof error];
 
     refused("the answer to a table too short",
             roadquill_read(chart, sizeof chart, 0, table, ROADQUILL_NUMBERS - 1), ROADQUILL_TABLE, 0);
     refused("the answer to E9", roadquill_read(chart, 1, 0, table, ROADQUILL_NUMBERS),
             ROADQUILL_LENGTH, 1);
+    refused("the answer to E9 81", roadquill_read(overrun, 2, 0, table, ROADQUILL_NUMBERS),
+            ROADQUILL_LENGTH, 1);
+    refused("the answer to E9 81 05",
+            roadquill_read(overrun, sizeof overrun, 0, table, ROADQUILL_NUMBERS),
+            ROADQUILL_NESTING, 0);
     memcpy(other, error, sizeof other);
     other[5] = 0xD5;
     refused("the answer to an error with a problem",

@@ -11,6 +11,12 @@
  * A component's code is two octets: an INVOKE's specifier, the specifier that
  * is handed in with a RESULT or an ERROR's error octet, each with 0 as the
  * second, or a REJECT's two problem octets.
+ *
+ * A length is one octet 00 to 7F, 81 and one octet, or 82 and two, high first.
+ * The reader takes each form for any length that it can say; the writer writes
+ * the shortest. So what was read, written again from the component it was read
+ * from, is never longer, and is the same octets exactly when every length was
+ * already shortest.
  */
 #ifndef ROADQUILL_H
 #define ROADQUILL_H
@@ -48,8 +54,8 @@ enum {
     ROADQUILL_TABLE = 1,        /* table too short: reader under 320 numbers, writer under 5 per entry; 0 */
     ROADQUILL_SIZE = 2,         /* input empty or over 4,096 octets; 0 */
     ROADQUILL_TYPE = 3,         /* component type not E9, EA, EB or EC; 0 */
-    ROADQUILL_LENGTH = 4,       /* length field of wrong form, not shortest, or cut by its parent's end;
-                                   place of that field */
+    ROADQUILL_LENGTH = 4,       /* length field of wrong form, or cut by its parent's end; place of that
+                                   field */
     ROADQUILL_NESTING = 5,      /* contents run past the parent, octets left over, or an element wanted
                                    where the parent has ended; the element, first octet left, that end */
     ROADQUILL_ID = 6,           /* component ID not CF, or its length not allowed: INVOKE none to two,

@@ -174,6 +174,16 @@ static void make(const char *name)
         };
         memcpy(made, chart, sizeof chart);
         made_count = sizeof chart;
+    } else if (strcmp(name, "padded-A") == 0) {
+        /* chart A as a switch that pads writes it: every length as 82 00 .. */
+        static const uint8_t chart[] = {
+            0xE9, 0x82, 0x00, 0x2E, 0xCF, 0x82, 0x00, 0x01, 0x05, 0xD1, 0x82, 0x00, 0x02, 0x09, 0x04,
+            0xF2, 0x82, 0x00, 0x1F, 0x85, 0x82, 0x00, 0x00, 0x86, 0x82, 0x00, 0x02, 0x01, 0x07,
+            0x88, 0x82, 0x00, 0x05, 0x21, 0x43, 0x65, 0x87, 0x09,
+            0x82, 0x82, 0x00, 0x02, 0x00, 0x11, 0x83, 0x82, 0x00, 0x02, 0x00, 0x12
+        };
+        memcpy(made, chart, sizeof chart);
+        made_count = sizeof chart;
     } else if (strcmp(name, "272-octets") == 0) {
         count = numbers_of(numbers, back, 6, 20, 0);
         component(ROADQUILL_INVOKE, 4, numbers, count, 0, 272);
@@ -200,7 +210,8 @@ static void make(const char *name)
     }
 }
 
-/* The writing that returns the component: what the reader shows of it. */
+/* The writing that returns the component, its lengths in the shortest form:
+ * what the reader shows of it. */
 static void add_component(const char *name)
 {
     static uint16_t entries[ROADQUILL_NUMBERS];

@@ -96,7 +96,8 @@ static int refuse(struct reading *r, unsigned number, size_t detail)
 }
 
 /* Reads the length field at *at, which may not pass `end`, and checks that
- * the contents of the element at `place` end within the parent. */
+ * the contents of the element at `place` end within the parent. Each form is
+ * taken for any length that it can say. */
 static int read_length(struct reading *r, size_t place, size_t *at, size_t end, size_t *length)
 {
     size_t field = *at;
@@ -109,12 +110,12 @@ static int read_length(struct reading *r, size_t place, size_t *at, size_t end, 
         *length = p[0];
         *at = field + 1;
     } else if (p[0] == 0x81) {
-        if (left < 2 || p[1] < 0x80)
+        if (left < 2)
             return refuse(r, 4, field);
         *length = p[1];
         *at = field + 2;
     } else if (p[0] == 0x82) {
-        if (left < 3 || p[1] == 0)
+        if (left < 3)
             return refuse(r, 4, field);
         *length = (size_t)p[1] << 8 | p[2];
         *at = field + 3;

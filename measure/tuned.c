@@ -60,7 +60,8 @@ static uint64_t refusal(unsigned number, size_t detail)
     return number | (uint64_t)detail << 8;
 }
 
-/* The length field at `at`, which may not pass `end`: the place behind it, 0 where it is wrong. */
+/* The length field at `at`, which may not pass `end`: the place behind it, 0 where it is wrong. Each form is taken for
+ * any length that it can say. */
 static inline size_t length_at(const uint8_t *octets, size_t at, size_t end, size_t *length)
 {
     unsigned first;
@@ -72,13 +73,13 @@ static inline size_t length_at(const uint8_t *octets, size_t at, size_t end, siz
         *length = first;
         return at + 1;
     }
-    if (first == 0x81 && end - at >= 2 && octets[at + 1] >= 0x80) {
-        *length = octets[at + 1];
-        return at + 2;
-    }
-    if (first == 0x82 && end - at >= 3 && octets[at + 1] != 0) {
+    if (first == 0x82 && at + 2 < end) {
         *length = (size_t)octets[at + 1] << 8 | octets[at + 2];
         return at + 3;
+    }
+    if (first == 0x81 && at + 1 < end) {
+        *length = octets[at + 1];
+        return at + 2;
     }
     return 0;
 }

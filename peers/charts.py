@@ -1,14 +1,13 @@
 """Single components: their octets, and what they are called on the page."""
 
 import tcap
-from tcap import ERROR, INVOKE, REJECT, identifier, element
+from tcap import ERROR, INVOKE, REJECT, identifier, element, padded, wide_field
 
 HEAD = bytes.fromhex("CF 01 05 D1 02 09 04")
 EMPTY = bytes.fromhex("85 00")
 THREE = bytes.fromhex("85 03 01 02 03")
 CIRCUIT = bytes.fromhex("86 02 01 07")
 MIN = bytes.fromhex("88 05 21 43 65 87 09")
-PADDED_MIN = bytes.fromhex("88 82 00 05 21 43 65 87 09")
 CELLS = bytes.fromhex("82 02 00 11 83 02 00 12")
 ESN = bytes.fromhex("89 04 01 02 03 04")
 IMSI = bytes.fromhex("9F 81 72 08 21 43 65 87 09 21 43 F5")
@@ -19,6 +18,11 @@ REST_OF_A = CIRCUIT + MIN + CELLS
 def back(parameters, head=HEAD, behind=b""):
     """An INVOKE of HandoffBack."""
     return element(bytes([INVOKE]), head + element(b"\xF2", parameters) + behind)
+
+
+def with_min_as(field, channel):
+    """A or B, the length field of MIN made by `field`."""
+    return back(channel + CIRCUIT + element(MIN[:1], MIN[2:], field) + CELLS)
 
 
 def failure(kind, *parts):
@@ -36,8 +40,14 @@ CHARTS = [
     ("B, 85 03 .. again at the end", back(THREE + REST_OF_A + THREE), None, 0, 6),
     ("RegistrationNotification INVOKE with MIN and IMSI",
      tcap.component(INVOKE, b"\x05", 13, ESN + MIN + IMSI + REST), None, 0, 6),
-    ("A, length of MIN as 82 00 05", back(EMPTY + CIRCUIT + PADDED_MIN + CELLS), None, 0, 5),
-    ("B, length of MIN as 82 00 05", back(THREE + CIRCUIT + PADDED_MIN + CELLS), None, 0, 5),
+    ("A, length of MIN as 82 00 05", with_min_as(wide_field(2), EMPTY), None, 0, 5),
+    ("A, every length as 81 nn", padded(back(EMPTY + REST_OF_A), wide_field(1)), None, 0, 5),
+    ("A, every length as 82 00 nn", padded(back(EMPTY + REST_OF_A), wide_field(2)), None, 0, 5),
+    ("B, length of MIN as 82 00 05", with_min_as(wide_field(2), THREE), None, 0, 5),
+    ("B, every length as 81 nn", padded(back(THREE + REST_OF_A), wide_field(1)), None, 0, 5),
+    ("B, every length as 82 00 nn", padded(back(THREE + REST_OF_A), wide_field(2)), None, 0, 5),
+    ("B, length of MIN as 83 00 00 05", with_min_as(wide_field(3), THREE), None, 0, 5),
+    ("B, length of MIN as 80", with_min_as(lambda _: b"\x80", THREE), None, 0, 5),
     ("B, ChannelData's number as 9F 05", back(b"\x9F\x05" + THREE[1:] + REST_OF_A), None, 0, 5),
     ("B, A5 05 around its ChannelData", back(element(identifier(5, 1), THREE) + REST_OF_A), None, 0, 5),
     ("B and an ESN, which the row does not name", back(ESN + THREE + REST_OF_A), None, 0, 6),
@@ -68,6 +78,8 @@ FAILURES = [
     ("E, D4 00", failure(ERROR, "CF0105", "D400", "F200"), True),
     ("E, D4 02 81 82", failure(ERROR, "CF0105", "D4028182", "F200"), True),
     ("E, length of D4 as 81 01", failure(ERROR, "CF0105", "D4810181", "F200"), True),
+    ("E, every length as 82 00 nn", padded(failure(ERROR, "CF0105", "D40181", "F200"), wide_field(2)), True),
+    ("E, length of D4 as 83 00 00 01", failure(ERROR, "CF0105", "D48300000181", "F200"), True),
     ("E, length of D4 as 05", failure(ERROR, "CF0105", "D40581", "F200"), True),
     ("E, F0 for F2", failure(ERROR, "CF0105", "D40181", "F000"), True),
     ("E without F2 00", failure(ERROR, "CF0105", "D40181"), True),
@@ -85,6 +97,8 @@ FAILURES = [
     ("S, D5 01 01", failure(REJECT, "CF0105", "D50101", "F200"), True),
     ("S, D5 03 00 01 01", failure(REJECT, "CF0105", "D503000101", "F200"), True),
     ("S, length of D5 as 81 02", failure(REJECT, "CF0105", "D581020101", "F200"), True),
+    ("S, every length as 82 00 nn", padded(failure(REJECT, "CF0105", "D5020101", "F200"), wide_field(2)), True),
+    ("S, length of D5 as 83 00 00 02", failure(REJECT, "CF0105", "D5830000020101", "F200"), True),
     ("S, length of D5 as 06", failure(REJECT, "CF0105", "D5060101", "F200"), True),
     ("S, F0 for F2", failure(REJECT, "CF0105", "D5020101", "F000"), True),
     ("S without F2 00", failure(REJECT, "CF0105", "D5020101"), True),
@@ -105,4 +119,8 @@ assert CHARTS[0][1] == bytes.fromhex(A)
 assert CHARTS[3][1] == bytes.fromhex(A.replace("E9 1E", "E9 20").replace("F2 15", "F2 17") + "85 00")
 # And those of order 2.
 assert FAILURES[0][1] == bytes.fromhex("EB 08 CF 01 05 D4 01 81 F2 00")
-assert FAILURES[19][1] == bytes.fromhex("EC 08 CF 00 D5 02 01 01 F2 00")
+assert FAILURES[21][1] == bytes.fromhex("EC 08 CF 00 D5 02 01 01 F2 00")
+# And chart A with padded lengths, as order 3's switch writes them.
+assert CHARTS[8][1] == bytes.fromhex(
+    "E9 82 00 2E CF 82 00 01 05 D1 82 00 02 09 04 F2 82 00 1F 85 82 00 00 86 82 00 02 01 07"
+    "88 82 00 05 21 43 65 87 09 82 82 00 02 00 11 83 82 00 02 00 12")

@@ -44,7 +44,7 @@ def dissect(folder, cases):
     frames, wanted = [], []
     for transaction, (octets, specifier) in enumerate(cases):
         if octets[0] != tcap.INVOKE and specifier is not None:
-            frames.append(tcap.package(tcap.component(tcap.INVOKE, octets[4:5], specifier, b""), transaction))
+            frames.append(tcap.package(tcap.component(tcap.INVOKE, tcap.first_id(octets), specifier, b""), transaction))
         frames.append(tcap.package(octets, transaction))
         wanted.append((len(frames), len(frames[-1]) - len(octets)))
     path = os.path.join(folder, "frames.pcap")

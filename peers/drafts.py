@@ -118,6 +118,14 @@ def with_others(dice, row):
     return tcap.component(kind, id_octets(dice, kind), specifier, b"".join(parts))
 
 
+def any_field(dice):
+    """Length fields of any form that can say the length."""
+    def field(count):
+        forms = [tcap.length_field, tcap.wide_field(2), tcap.wide_field(1)]
+        return forms[dice.below(3 if count < 256 else 2)](count)
+    return field
+
+
 def failure(dice, kind):
     """An ERROR or a REJECT of any code with none to six parameters: no row names any."""
     code = dice.below(256 if kind == ERROR else 65536)

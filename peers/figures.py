@@ -11,6 +11,7 @@ import tcap
 from page import print_table, said
 
 EACH_ROW = 500
+EACH_PADDED = 100
 SEED = 41
 READS = 20000
 READ_SEED = 7
@@ -106,6 +107,19 @@ def print_rows(folder, program):
     print_table(heads, lines + [[f"all, {2 * EACH_ROW * len(drafts.ROWS):,} components", *total]])
 
 
+def print_padded(folder, program):
+    """Named parameters only, the same components with length fields of several kinds."""
+    dice, lines = drafts.Dice(SEED), []
+    drawn = [(drafts.named_only(dice, row), row[1]) for row in drafts.ROWS for _ in range(EACH_PADDED)]
+    for name, field in (("shortest", tcap.length_field), ("82 and two octets", tcap.wide_field(2)),
+                        ("any form that can say it, drawn for each", drafts.any_field(dice))):
+        cases = [(tcap.padded(octets, field), specifier) for octets, specifier in drawn]
+        counts, seen = measure_row(folder, program, cases)
+        assert all(in_its_field(shown) for one in seen for shown in one.shown)
+        lines.append((name, len(cases), *counts, sum(not one.complaints for one in seen)))
+    print_table(["Lengths", "Components", "Named", "Equal", "Place", "None", "Quiet"], lines)
+
+
 def entry(one):
     """The numbers of a table: the place comes last."""
     return (*one[1:], one[0])
@@ -122,6 +136,8 @@ def print_any_contents(folder, readings):
                       if octets[0] == tcap.RESULT and specifier in (26, 101))
     print_table(["The second program's own components", "Count"], [
         ("accepted", len(found)),
+        ("accepted, and a length in it is padded",
+         sum(tcap.padded(octets, tcap.length_field) != octets for octets, _, _ in found)),
         ("accepted, and the script's walk gives the second program's table", walked),
         ("tshark shows every parameter with our number, form, start and length",
          sum(one[0] == one[1] for one in counts)),
@@ -138,6 +154,7 @@ def main(folder, program):
     print_charts(folder, program)
     print_zero(folder, program)
     print_rows(folder, program)
+    print_padded(folder, program)
     readings = second.readings(program, READS, READ_SEED)
     print_any_contents(folder, readings)
     failures.print_charts(folder, program)

@@ -1,4 +1,4 @@
-"""Octets: identifiers, lengths, components, packages, pcap files, and a walk over an accepted component."""
+"""Octets: identifiers, lengths, components, packages, pcap files; an accepted component walked over, or padded."""
 
 import struct
 
@@ -26,8 +26,13 @@ def identifier(number, form=0):
     return bytes([first | 31, 0x80 | number >> 7, number & 0x7F])
 
 
-def element(octets, contents):
-    return octets + length_field(len(contents)) + contents
+def wide_field(size):
+    """Makes length fields of so many octets behind the first, also where fewer would do."""
+    return lambda count: bytes([0x80 | size]) + count.to_bytes(size, "big")
+
+
+def element(octets, contents, field=length_field):
+    return octets + field(len(contents)) + contents
 
 
 def code_element(kind, code):
@@ -82,12 +87,30 @@ def read_identifier(octets, at):
     return number, form, at
 
 
-def walk(octets):
-    """Place, number, form, start and length of each parameter. It checks nothing: the component is accepted."""
+def head(octets):
+    """Identifier and contents of each element before the set, and the set's place."""
     _, at = read_length(octets, 1)
+    elements = []
     for _ in range(1 if octets[0] == RESULT else 2):
         length, start = read_length(octets, at + 1)
+        elements.append((octets[at:at + 1], octets[start:start + length]))
         at = start + length
+    return elements, at
+
+
+def first_id(octets):
+    """The first ID octet; of a damaged component what stands in its place, if anything does."""
+    try:
+        _, at = read_length(octets, 1)
+        length, at = read_length(octets, at + 1)
+    except IndexError:
+        return b""
+    return octets[at:at + min(length, 1)]
+
+
+def walk(octets):
+    """Place, number, form, start and length of each parameter. It checks nothing: the component is accepted."""
+    _, at = head(octets)
     _, at = read_length(octets, at + 1)
     entries = []
     while at < len(octets):
@@ -96,3 +119,11 @@ def walk(octets):
         entries.append((at, number, form, start, length))
         at = start + length
     return entries
+
+
+def padded(octets, field):
+    """An accepted component again, each of its length fields made by `field`."""
+    parts = [element(identifier(number, form), octets[start:start + length], field)
+             for _, number, form, start, length in walk(octets)]
+    body = [element(*one, field) for one in head(octets)[0]] + [element(b"\xF2", b"".join(parts), field)]
+    return element(octets[:1], b"".join(body), field)

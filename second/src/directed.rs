@@ -8,11 +8,13 @@ mod limits;
 mod lists;
 mod names;
 mod order;
+mod padding;
 mod parts;
 mod row_cases;
 
-use crate::generate::draft::{identifier, Draft, Element};
+use crate::generate::draft::{identifier, Draft, Element, Forms, WITH_81, WITH_82};
 use crate::generate::Subject;
+use crate::random::Random;
 use crate::rows::{self, Identifier, Row, ROWS};
 use crate::types::{ComponentType, RESULT};
 use lists::List;
@@ -33,6 +35,7 @@ pub fn cases() -> Vec<Case> {
         layout::cases(),
         order::cases(),
         limits::cases(),
+        padding::cases(),
     ];
     each_once(groups.into_iter().flatten())
 }
@@ -92,6 +95,15 @@ fn draft(row: &'static Row, list: &[Identifier]) -> Draft {
 
 fn draft_of(subject: Subject, list: &[Identifier]) -> Draft {
     Draft::of(subject, list.iter().map(|one| parameter(*one)).collect())
+}
+
+/// The two ways to pad a length.
+const PADDED: [Forms; 2] = [WITH_81, WITH_82];
+
+/// All its length fields padded in one of these ways.
+fn padded(mut draft: Draft, forms: Forms) -> Draft {
+    draft.pad(&mut Random::new(0), forms);
+    draft
 }
 
 /// A row that names nothing.

@@ -7,6 +7,7 @@ pub mod directed;
 pub mod errors;
 pub mod generate;
 pub mod listing;
+pub mod padding;
 pub mod random;
 pub mod reader;
 pub mod refusal;

@@ -249,13 +249,12 @@ fn contents_to_the_end(
 }
 
 /// A length field in `parent`, which ends with the parent; answers the
-/// length and the place behind the field.
+/// length and the place behind the field. Each of the three forms is taken
+/// for any value that it can say.
 fn read_length(parent: &[u8], field: usize) -> Result<(usize, usize), Refusal> {
     match parent[field..] {
-        [] => Err(Refusal::new(4, field, "cut")),
+        [] | [0x81] | [0x82] | [0x82, _] => Err(Refusal::new(4, field, "cut")),
         [length @ 0x00..=0x7F, ..] => Ok((usize::from(length), field + 1)),
-        [0x81] | [0x82] | [0x82, _] => Err(Refusal::new(4, field, "cut")),
-        [0x81, 0x00..=0x7F, ..] | [0x82, 0x00, ..] => Err(Refusal::new(4, field, "not shortest")),
         [0x81, length, ..] => Ok((usize::from(length), field + 2)),
         [0x82, high, low, ..] => Ok((usize::from(high) << 8 | usize::from(low), field + 3)),
         _ => Err(Refusal::new(4, field, "form")),

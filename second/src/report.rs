@@ -1,29 +1,45 @@
-//! How often the generated cases reach each number, by component type.
+//! How often the generated cases reach each number, by component type, and
+//! how often a component is padded.
 
 use crate::cases::{answer_read, answer_write, read_random, write_random};
-use crate::generate::{read_case, write_case};
+use crate::generate::{read_case, write_case, WriteCase};
+use crate::padding::is_padded;
+use crate::reader::{read, TABLE_NUMBERS};
 use crate::refusal::Refusal;
 use crate::types::{self, TYPES};
 use std::collections::BTreeMap;
 use std::fmt::Write;
 
-/// A number, the reason that the report tells apart, and the type; none where
-/// the octet is no type, or there is no octet.
-type Key = (u8, &'static str, Option<u8>);
+/// What the report tells apart.
+#[derive(PartialEq, Eq, PartialOrd, Ord)]
+struct Key {
+    number: u8,
+    why: &'static str,
+    /// None where the octet is no type, or there is no octet.
+    kind: Option<u8>,
+    /// Whether the component that is read, or was read, has a padded length.
+    padded: bool,
+}
+
 type Counts = BTreeMap<Key, u64>;
 
 pub fn report(reads: u64, writes: u64, seed: u64) -> String {
     let both = [count_reads(reads, seed), count_writes(writes, seed)];
     let mut text = heading();
     for number in (0..=18).chain([21]) {
-        put_line(&mut text, &number.to_string(), &both, |key| key.0 == number);
+        let of_number = |key: &Key| key.number == number;
+        put_line(&mut text, &number.to_string(), &both, of_number);
         for why in reasons(&both, number) {
             let name = format!("   {why}");
             put_line(&mut text, &name, &both, |key| {
-                (key.0, key.1) == (number, why)
+                of_number(key) && key.why == why
             });
         }
     }
+    put_line(&mut text, "padded", &both, |key| key.padded);
+    put_line(&mut text, "   accepted", &both, |key| {
+        key.padded && key.number == 0
+    });
     text
 }
 
@@ -53,7 +69,7 @@ fn put_line(text: &mut String, name: &str, both: &[Counts; 2], met: impl Fn(&Key
     for counts in both {
         put_cell(text, &total(counts, &met).to_string());
         for column in columns() {
-            let count = total(counts, |key| key.2 == column && met(key));
+            let count = total(counts, |key| key.kind == column && met(key));
             put_cell(text, &count.to_string());
         }
     }
@@ -68,8 +84,8 @@ fn total(counts: &Counts, met: impl Fn(&Key) -> bool) -> u64 {
 /// The reasons of a number, where there is more than one.
 fn reasons(both: &[Counts; 2], number: u8) -> Vec<&'static str> {
     let keys = both.iter().flat_map(|counts| counts.keys());
-    let of_number = keys.filter(|key| key.0 == number);
-    let mut list: Vec<&'static str> = of_number.map(|key| key.1).collect();
+    let of_number = keys.filter(|key| key.number == number);
+    let mut list: Vec<&'static str> = of_number.map(|key| key.why).collect();
     list.sort();
     list.dedup();
     if list.len() < 2 {
@@ -86,9 +102,21 @@ fn reason(refusal: &Refusal) -> &'static str {
     }
 }
 
-fn count(counts: &mut Counts, octet: Option<u8>, reached: (u8, &'static str)) {
-    let kind = octet.and_then(types::find).map(|kind| kind.octet);
-    *counts.entry((reached.0, reached.1, kind)).or_insert(0) += 1;
+fn count(counts: &mut Counts, octet: Option<u8>, reached: (u8, &'static str), padded: bool) {
+    let key = Key {
+        number: reached.0,
+        why: reached.1,
+        kind: octet.and_then(types::find).map(|kind| kind.octet),
+        padded,
+    };
+    *counts.entry(key).or_insert(0) += 1;
+}
+
+/// Whether the order is what was read of a padded component.
+fn from_padded(case: &WriteCase) -> bool {
+    let mut table = [0; TABLE_NUMBERS];
+    let read = read(&case.source, case.head.code[0], &mut table);
+    read.is_ok() && is_padded(&case.source)
 }
 
 fn count_reads(cases: u64, seed: u64) -> Counts {
@@ -101,7 +129,9 @@ fn count_reads(cases: u64, seed: u64) -> Counts {
             Ok(accepted) if accepted.other == 0 => (0, "named only"),
             Ok(_) => (0, "with others"),
         };
-        count(&mut counts, case.component.first().copied(), reached);
+        let octet = case.component.first().copied();
+        let padded = is_padded(&case.component);
+        count(&mut counts, octet, reached, padded);
     }
     counts
 }
@@ -116,7 +146,8 @@ fn count_writes(cases: u64, seed: u64) -> Counts {
             Ok(octets) if *octets == case.output => (0, "output filled"),
             Ok(_) => (0, "output longer"),
         };
-        count(&mut counts, Some(case.head.kind), reached);
+        let octet = Some(case.head.kind);
+        count(&mut counts, octet, reached, from_padded(&case));
     }
     counts
 }

@@ -1,6 +1,6 @@
 //! The writer: the other way, from entries and their source to octets.
 
-use crate::reader::ENTRY_NUMBERS;
+use crate::reader::{Accepted, ENTRY_NUMBERS};
 use crate::refusal::Refusal;
 use crate::rows::{self, Identifier, RowFault};
 use crate::types::{self, Code, ComponentType};
@@ -19,6 +19,19 @@ pub struct Head {
     pub id_first: u8,
     pub id_second: u8,
     pub code: Code,
+}
+
+impl Head {
+    /// What was read, to be written again.
+    pub fn of(accepted: &Accepted) -> Head {
+        Head {
+            kind: accepted.kind,
+            id_count: accepted.id_count,
+            id_first: accepted.id[0],
+            id_second: accepted.id[1],
+            code: accepted.code,
+        }
+    }
 }
 
 /// Accepted: the count of octets written.

@@ -266,7 +266,11 @@ fn short_inputs() {
     assert_eq!(refused("E9 00", 0), (5, 2));
     assert_eq!(refused("30 00", 0), (3, 0));
     assert_eq!(refused("E9 80", 0), (4, 1));
-    assert_eq!(refused("E9 81 05", 0), (4, 1));
+    assert_eq!(refused("E9 81 05", 0), (5, 0));
+    assert_eq!(refused("E9 82 00 05", 0), (5, 0));
+    for field in ["81", "82", "82 00", "83", "83 00 00 05", "FF"] {
+        assert_eq!(refused(&format!("E9 {field}"), 0), (4, 1), "{field}");
+    }
     for kind in ["EA", "EB", "EC"] {
         assert_eq!(refused(kind, 0), (4, 1));
         assert_eq!(refused(&format!("{kind} 00"), 0), (5, 2));
@@ -392,7 +396,9 @@ fn order_at_an_element() {
     // Parameters.
     assert_eq!(refused("EA 06 CF 01 05 F2 01 85", 4), (4, 8));
     assert_eq!(refused("EA 07 CF 01 05 F2 02 85 01", 4), (5, 7));
-    assert_eq!(refused("EA 08 CF 01 05 F2 03 85 81 00", 4), (4, 8));
+    assert_eq!(refused("EA 08 CF 01 05 F2 03 85 81 01", 4), (5, 7));
+    assert_eq!(refused("EA 08 CF 01 05 F2 03 85 82 00", 4), (4, 8));
+    assert_eq!(refused("EA 09 CF 01 05 F2 04 85 83 00 00", 4), (4, 8));
 }
 
 /// Where an INVOKE has its operation code.
@@ -409,16 +415,15 @@ fn order_at_the_error_and_the_problem() {
             assert_eq!(at(other), (21, 5));
         }
         assert_eq!(at(element), (4, 6));
-        let fields = [
-            "80".into(),
-            "81".into(),
-            format!("81 {size:02X} {code}"),
-            format!("82 00 {size:02X} {code}"),
-        ];
-        for field in fields {
+        for field in ["80", "81", "82", "82 00", "83 00 00 01 01"] {
             assert_eq!(at(&format!("{element} {field}")), (4, 6));
         }
-        assert_eq!(at(&format!("{element} {size:02X}")), (5, 5));
+        for padding in ["", "81 ", "82 00 "] {
+            let field = format!("{padding}{size:02X}");
+            assert_eq!(at(&format!("{element} {field}")), (5, 5));
+            let end = 6 + field.split_whitespace().count() + size;
+            assert_eq!(at(&format!("{element} {field} {code}")), (5, end as u32));
+        }
         assert_eq!(at(&format!("{element} 04 {code}")), (5, 5));
         assert_eq!(at(&format!("{element} 00")), (21, 5));
         // Another length, alone and before a set that is wrong.

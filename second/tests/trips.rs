@@ -1,8 +1,10 @@
 //! Return trips on generated cases, and how far the cases reach.
 
 use second::cases::{answer_read, answer_write, read_random, write_random};
-use second::generate::{read_case, write_case};
-use second::reader::{self, read, ENTRY_NUMBERS, TABLE_NUMBERS};
+use second::generate::{read_case, write_case, ReadCase};
+use second::padding::is_padded;
+use second::reader::{self, read, Accepted, ENTRY_NUMBERS, TABLE_NUMBERS};
+use second::refusal::Refusal;
 use second::rows::ROWS;
 use second::types::{self, ComponentType, INVOKE, REJECT, TYPES};
 use second::writer::{self, write, Head};
@@ -20,29 +22,58 @@ fn check_trips(trips: Trips) {
     }
 }
 
+/// Every length of what is written is the shortest, and nothing else differs:
+/// the octets are the same exactly when nothing was padded.
 #[test]
-fn writing_what_was_read_gives_the_same_octets() {
+fn writing_what_was_read_gives_the_shortest_form() {
     let mut random = read_random(11);
     let mut trips = Trips::new();
+    let mut shortened = Trips::new();
     for _ in 0..CASES {
         let case = read_case(&mut random);
-        let (answer, table) = answer_read(&case);
-        let Ok(accepted) = answer else { continue };
-        check_places(&case.component, &table);
-        let head = Head {
-            kind: accepted.kind,
-            id_count: accepted.id_count,
-            id_first: accepted.id[0],
-            id_second: accepted.id[1],
-            code: accepted.code,
+        let (Ok(accepted), table) = answer_read(&case) else {
+            continue;
         };
-        let mut output = vec![0; case.component.len()];
-        let written = write(head, accepted.all, &table, &case.component, &mut output);
-        assert_eq!(written, Ok(case.component.len()));
-        assert_eq!(output, case.component);
+        check_places(&case.component, &table);
+        let written = written_again(&accepted, &table, &case.component);
+        assert!(!is_padded(&written));
+        let padded = is_padded(&case.component);
+        assert_eq!(written == case.component, !padded);
+        assert_eq!(written.len() < case.component.len(), padded);
+        check_same(&case, (&accepted, &table), &written);
         *trips.entry(accepted.kind).or_insert(0) += 1;
+        *shortened.entry(accepted.kind).or_insert(0) += usize::from(padded);
     }
     check_trips(trips);
+    assert!(shortened.len() == 4 && shortened.values().all(|count| *count > CASES / 50));
+}
+
+/// As long an output as the component is enough, and so is one as long as
+/// what is written; one octet less is not.
+fn written_again(accepted: &Accepted, table: &[u16], component: &[u8]) -> Vec<u8> {
+    let into = |octets: usize| {
+        let mut output = vec![0; octets];
+        let head = Head::of(accepted);
+        let answer = write(head, accepted.all, table, component, &mut output);
+        answer.map(|count| output[..count].to_vec())
+    };
+    let written = into(component.len()).expect("accepted");
+    let needed = written.len();
+    assert_eq!(into(needed).as_ref(), Ok(&written));
+    assert_eq!(into(needed - 1), Err(Refusal::new(17, needed, "")));
+    written
+}
+
+/// What was written reads as what was read: but for starts and places.
+fn check_same(case: &ReadCase, (accepted, table): (&Accepted, &[u16]), written: &[u8]) {
+    let mut again = [0; TABLE_NUMBERS];
+    let answer = read(written, case.specifier, &mut again);
+    assert_eq!(answer.as_ref(), Ok(accepted));
+    let entries = table.chunks_exact(ENTRY_NUMBERS);
+    for (first, second) in entries.zip(again.chunks_exact(ENTRY_NUMBERS)) {
+        assert_eq!(first[..2], second[..2]);
+        assert_eq!(part(&case.component, first), part(written, second));
+    }
 }
 
 #[test]
@@ -212,43 +243,52 @@ fn every_writer_number_is_reached() {
 #[test]
 fn every_fault_at_the_code_is_reached() {
     let mut random = read_random(16);
-    let mut reached: BTreeMap<(u8, u8, &str), usize> = BTreeMap::new();
+    let mut reached: BTreeMap<(bool, u8, u8, &str), usize> = BTreeMap::new();
     for _ in 0..CASES {
         let case = read_case(&mut random);
         let (Err(refusal), _) = answer_read(&case) else {
             continue;
         };
-        // One octet of length for the component.
-        let &[kind, 0..0x80, 0xCF, id_count @ 0..=2, ..] = &case.component[..] else {
+        let Some((padded, place)) = behind_id(&case.component) else {
             continue;
         };
-        let place = 4 + u32::from(id_count);
         let field = refusal.number == 4 && refusal.detail == place + 1;
         let element = refusal.number != 4 && refusal.detail == place;
         if field || element {
-            let key = (kind, refusal.number, refusal.why);
+            let key = (padded, case.component[0], refusal.number, refusal.why);
             *reached.entry(key).or_insert(0) += 1;
         }
     }
     for kind in &TYPES {
-        let Some(code) = &kind.code else { continue };
-        let own = ["identifier", "length", "family"].map(|why| (code.refused_by, why));
-        let own = &own[..2 + code.family.len()];
-        let shared = [
-            (4, "cut"),
-            (4, "form"),
-            (4, "not shortest"),
-            (5, "ended"),
-            (5, "overrun"),
-        ];
-        for (number, why) in shared.iter().chain(own) {
-            let count = reached
-                .get(&(kind.octet, *number, *why))
-                .copied()
-                .unwrap_or(0);
-            assert!(count >= 20, "{:X}, {number}, {why}: {count}", kind.octet);
+        for (number, why) in faults_at_code(kind) {
+            for (padded, least) in [(false, 20), (true, 3)] {
+                let count = reached.get(&(padded, kind.octet, number, why));
+                let count = count.copied().unwrap_or(0);
+                let met = count >= least;
+                assert!(met, "{:X}, {number}, {why}, {padded}: {count}", kind.octet);
+            }
         }
     }
+}
+
+/// Where the code stands behind lengths of one octet, and behind lengths that
+/// are both padded with 82.
+fn behind_id(component: &[u8]) -> Option<(bool, u32)> {
+    match *component {
+        [_, 0..0x80, 0xCF, count @ 0..=2, ..] => Some((false, 4 + u32::from(count))),
+        [_, 0x82, 0, _, 0xCF, 0x82, 0, count @ 0..=2, ..] => Some((true, 8 + u32::from(count))),
+        _ => None,
+    }
+}
+
+fn faults_at_code(kind: &ComponentType) -> Vec<(u8, &'static str)> {
+    let Some(code) = &kind.code else {
+        return Vec::new();
+    };
+    let own = ["identifier", "length", "family"].map(|why| (code.refused_by, why));
+    let own = &own[..2 + code.family.len()];
+    let shared = [(4, "cut"), (4, "form"), (5, "ended"), (5, "overrun")];
+    [&shared, own].concat()
 }
 
 /// What the rows leave to errors and rejects: none of their parameters is

@@ -1,18 +1,19 @@
--- What is composed is laid out, and what is laid out is what is composed.
-use Prim.Native.Nat.{ℕ, _≤_}
+-- What is composed is laid out, and what is laid out can be composed.
+use Prim.Native.Nat.{_≤_}
 use mathlib.Core.Path.{_≡_, refl}
 use mathlib.Core.List.{List, [], _∷_, _++_}
 use lib.ListN.{length, length-append}
 use native.Mathlib.Omega.{arith}
 use Rattle.element.specs.Octets.{Octets}
-use Rattle.element.specs.Length.{short, shortest}
-use Rattle.element.specs.Identifier.{IdentifierField, only, identifier}
-use Rattle.element.proofs.LengthLaws.{unique, bounded}
+use Rattle.element.specs.Length.{shortest}
+use Rattle.element.specs.Identifier.{only, identifier}
+use Rattle.element.proofs.LengthLaws.{short}
 use Rattle.element.proofs.IdentifierLaws as I
 use Rattle.component.specs.Types.{Coding, uncoded, coded, codingOf, codeSize}
 use Rattle.component.specs.Grammar.{Parameter, Element, laid, Parameters, none, more, Component, Coded, absent, present, Laid}
 use Rattle.component.specs.Composed.{element, setOf, codeElement, composed}
 use Rattle.component.proofs.Composable.{Composable, Identified}
+use Rattle.component.proofs.Shortening.{shorter}
 
 -- ---- composed
 within : (head body : Octets) → length body ≤ length (element head body)
@@ -58,27 +59,6 @@ composes {c} h =
     }
 
 -- ---- laid out
-pub is-element : {head body s : Octets} → Element head body s → s ≡ element head body
-unfolding element
-is-element (laid field r) = rw (unique r (short _ (bounded r)))
-
-pub is-identifier : {number form : ℕ} {field : Octets} → IdentifierField number form field → field ≡ identifier number form
-is-identifier (only number form h k) = refl
-
-pub is-set : {ps : List Parameter} {s : Octets} → Parameters ps s → s ≡ setOf ps
-unfolding setOf
-is-set none = refl
-is-set (more p n w r) = rw (is-element w, is-identifier n, is-set r)
-
-is-code : {coding : Coding} {code s : Octets} → Coded coding code s → s ≡ codeElement coding code
-unfolding codeElement
-is-code absent = refl
-is-code (present e w) = is-element w
-
-pub is-composed : {c : Component} {s : Octets} → Laid c s → s ≡ composed c
-unfolding composed
-is-composed x = rw (is-element (x .whole), is-element (x .identified), is-code (x .encoded), is-element (x .collected), is-set (x .parameters))
-
 identified : {ps : List Parameter} {s : Octets} → Parameters ps s → Identified ps
 identified none = tt
 identified (more p n w r) = (I.bounded n .0, I.bounded n .1, identified r)
@@ -88,4 +68,4 @@ code-size absent = refl
 code-size (present e w) = e
 
 pub laid-composable : {c : Component} {s : Octets} → Laid c s → length s ≤ 4096 → Composable c
-laid-composable x h = record { allowed = x .allowed; code = code-size (x .encoded); identified = identified (x .parameters); size = rw (is-composed x) at h }
+laid-composable x h = record { allowed = x .allowed; code = code-size (x .encoded); identified = identified (x .parameters); size = omega (arith, shorter x .never-longer) }

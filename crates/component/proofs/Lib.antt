@@ -7,6 +7,7 @@ pub mod Ends
 pub mod Inside
 pub mod Refusing
 pub mod Laying
+pub mod Shortening
 pub mod Composes
 pub mod Complete
 pub mod Deciding

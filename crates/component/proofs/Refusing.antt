@@ -16,7 +16,6 @@ use Rattle.element.specs.declared.Identifier as I
 use Rattle.element.specs.declared.Identifier.the-variants as IV
 use Rattle.element.specs.Octets.{Octets, AreOctets, between}
 use Rattle.element.specs.Answer.{Answer, accepted, refused, _>>=_, _>>_, check}
-use Rattle.element.specs.Length.{short}
 use Rattle.element.specs.Decoded.{lengthAt, identifierAt}
 use Rattle.element.proofs.LengthLaws as Length
 use Rattle.element.proofs.IdentifierLaws as Identifier

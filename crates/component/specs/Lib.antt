@@ -1,5 +1,6 @@
 pub mod Types
 pub mod Grammar
+pub mod Shortest
 pub mod Faults
 pub mod Table
 pub mod Standing

@@ -35,28 +35,18 @@ module _ (s : Octets) where
       unfolding lengthAt
       cut-81 h = simp (lt-leb (length s) 0, ← e, is-81, le-leb (length s) 1)
 
-      module _ (b : ℕ) (f : b ≡ getD s 1 0) (more : 1 < length s) where
-        pub long-81 : b < 128 → LV.Wrong ≡ lengthAt s
-        unfolding lengthAt
-        long-81 h = simp (lt-leb (length s) 0, ← e, is-81, lt-leb (length s) 1, ← f, lt-ltb b 128)
-
-        pub two-octets : 128 ≤ b → LV.Is b 2 ≡ lengthAt s
-        unfolding lengthAt
-        two-octets h = simp (lt-leb (length s) 0, ← e, is-81, lt-leb (length s) 1, ← f, le-ltb b 128)
+      pub two-octets : (b : ℕ) → b ≡ getD s 1 0 → 1 < length s → LV.Is b 2 ≡ lengthAt s
+      unfolding lengthAt
+      two-octets b f h = simp (lt-leb (length s) 0, ← e, is-81, lt-leb (length s) 1, ← f)
 
     module _ (is-82 : a ≡ 130) where
       pub cut-82 : length s ≤ 2 → LV.Wrong ≡ lengthAt s
       unfolding lengthAt
       cut-82 h = simp (lt-leb (length s) 0, ← e, is-82, le-leb (length s) 2)
 
-      module _ (b : ℕ) (f : b ≡ getD s 1 0) (more : 2 < length s) where
-        pub long-82 : b < 1 → LV.Wrong ≡ lengthAt s
-        unfolding lengthAt
-        long-82 h = simp (lt-leb (length s) 0, ← e, is-82, lt-leb (length s) 2, ← f, lt-ltb b 1)
-
-        pub three-octets : (d : ℕ) → d ≡ getD s 2 0 → 1 ≤ b → LV.Is (b * 256 + d) 3 ≡ lengthAt s
-        unfolding lengthAt
-        three-octets d g h = simp (lt-leb (length s) 0, ← e, is-82, lt-leb (length s) 2, ← f, le-ltb b 1, ← g)
+      pub three-octets : (b d : ℕ) → b ≡ getD s 1 0 → d ≡ getD s 2 0 → 2 < length s → LV.Is (b * 256 + d) 3 ≡ lengthAt s
+      unfolding lengthAt
+      three-octets b d f g h = simp (lt-leb (length s) 0, ← e, is-82, lt-leb (length s) 2, ← f, ← g)
 
 -- a field as a value, by its size
 abbrev value : (size first second third : ℕ) → F.Field

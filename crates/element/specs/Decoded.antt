@@ -14,11 +14,9 @@ lengthAt s =
     if (leb (length s) 0) LV.Wrong
     (if (ltb (getD s 0 0) 0x80) (LV.Is (getD s 0 0) 1)
     (if (eqb (getD s 0 0) 0x81)
-    (if (leb (length s) 1) LV.Wrong
-    (if (ltb (getD s 1 0) 128) LV.Wrong (LV.Is (getD s 1 0) 2)))
+    (if (leb (length s) 1) LV.Wrong (LV.Is (getD s 1 0) 2))
     (if (eqb (getD s 0 0) 0x82)
-    (if (leb (length s) 2) LV.Wrong
-    (if (ltb (getD s 1 0) 1) LV.Wrong (LV.Is (getD s 1 0 * 256 + getD s 2 0) 3)))
+    (if (leb (length s) 2) LV.Wrong (LV.Is (getD s 1 0 * 256 + getD s 2 0) 3))
     LV.Wrong)))
 
 -- a number in the long form, of which `size` octets are read

@@ -1,6 +1,6 @@
--- The length field: one octet 00 to 7F; 81 and one octet for 128 to 255; 82 and two octets, high first, for 256 to
--- 65,535.
-use Prim.Native.Nat.{ℕ, _/_, _%_, _<_}
+-- The length field: one octet 00 to 7F; 81 and one octet; 82 and two octets, high first. Any of the three is taken for
+-- a length that it can say; the shortest is written.
+use Prim.Native.Nat.{ℕ, _+_, _*_, _/_, _%_, _<_}
 use mathlib.Core.List.{[], _∷_}
 use lib.Dec.{ltb}
 use Rattle.element.specs.Octets.{Octets, if}
@@ -16,6 +16,8 @@ shortest n =
 unfoldable pub fieldSize : ℕ → ℕ
 fieldSize n = if (ltb n 128) 1 (if (ltb n 256) 2 (if (ltb n 65536) 3 4))
 
--- the fields that are taken for `n`
+-- the fields that are taken for a length
 pub data LengthField : ℕ → Octets → Type 0 where
-  short : (n : ℕ) → n < 65536 → LengthField n (shortest n)
+  one : {n : ℕ} → n < 128 → LengthField n (n ∷ [])
+  two : {n : ℕ} → n < 256 → LengthField n (0x81 ∷ n ∷ [])
+  three : {high low : ℕ} → high < 256 → low < 256 → LengthField (high * 256 + low) (0x82 ∷ high ∷ low ∷ [])

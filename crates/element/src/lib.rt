@@ -10,7 +10,7 @@ ghost use Rattle.element.specs.Identifier.{identifier, identifierSize};
 pub enum Length {
     // A value, and how many octets its field takes.
     Is { value: usize, size: usize },
-    // A wrong form, not the shortest, or cut by the parent's end.
+    // A wrong form, or cut by the parent's end.
     Wrong,
 }
 
@@ -44,7 +44,7 @@ fn double(x: u8) -> u16
 
 // ---- length fields
 
-// The length field at the head of what is left of the parent.
+// The length field at the head of what is left of the parent, in any form that can say its value.
 pub fn read_length(rest: &[u8]) -> Length
     ensures { λ r. ⌜ r ≡ lengthAt (now (rest .entry)) ⌝ }
 {
@@ -62,20 +62,16 @@ pub fn read_length(rest: &[u8]) -> Length
         if rest.len() <= 1 {
             return Length::Wrong;
         }
-        let value = wide(rest[1]);
-        if value < 128 {
-            return Length::Wrong;
-        }
-        return Length::Is { value, size: 2 };
+        return Length::Is {
+            value: wide(rest[1]),
+            size: 2,
+        };
     }
     if first == 0x82 {
         if rest.len() <= 2 {
             return Length::Wrong;
         }
         let high = wide(rest[1]);
-        if high < 1 {
-            return Length::Wrong;
-        }
         let low = wide(rest[2]);
         return Length::Is {
             value: high * 256 + low,

@@ -6,6 +6,7 @@ use mathlib.Core.List.{List, [], _∷_, map}
 use mathlib.Core.Logic.{inr}
 use lib.ListN.{length, getD, drop, replicate}
 use borrow.Author.Tests.{ne-eqb}
+use native.Mathlib.Decide.{decLe}
 use native.Mathlib.Omega.{arith}
 use Rattle.element.specs.Octets.{Octets, AreOctets}
 use Rattle.element.specs.Answer.{Answer, accepted, refused}
@@ -13,7 +14,10 @@ use Rattle.element.specs.Length.{shortest, fieldSize}
 use Rattle.element.specs.Identifier.{identifier, identifierSize}
 use Rattle.element.proofs.Reading.{small}
 use Rattle.component.specs.Table.{Entry, width, tableSize, tableWith, held, heldFrom, parameterOf, idOctets, writtenCode, componentOf}
-use Rattle.component.specs.Grammar.{Component}
+use Rattle.component.specs.Grammar.{Parameter, Component, Laid}
+use Rattle.component.specs.Shortest.{Shortest}
+use Rattle.component.proofs.Deciding.{ask}
+use Rattle.component.proofs.Shortening.{shorter}
 use Rattle.component.specs.Faults.{LaidOut}
 use Rattle.component.specs.Standing.{standing}
 use Rattle.component.specs.Part.{fits}
@@ -22,7 +26,7 @@ use Rattle.component.specs.Composing.{entryStands, takenFrom, entriesFrom, entr
 use Rattle.element.specs.Output.{written, outputAfter}
 use Rattle.component.specs.Types.{formatOf, typed, idFits}
 use Rattle.component.specs.Needed.{elementSize, setSize, codingSize, bodySize, octetsNeeded}
-use Rattle.operation.specs.Row.{key, numberOf, onLine, named, named as names, repeats}
+use Rattle.operation.specs.Row.{Row, key, numberOf, onLine, named, named as names, repeats}
 use Rattle.operation.specs.Judge.{occurs, lastMark, once, present, single, judge, countNamed}
 use Rattle.operation.specs.Rows.{operations}
 use Rattle.operation.specs.Finding.{find, rowed, rowOf}
@@ -31,7 +35,7 @@ use Rattle.operation.specs.Book.{none}
 use Rattle.operation.specs.Codes.{toldCode}
 use Rattle.operation.specs.Writing.{writing}
 use Rattle.operation.specs.Caller.{Read, read, Told, Reader, Order, Writer}
-use Rattle.operation.specs.Demands.{keyOf, Rowed, unasked, tally, ReaderRefuses, tells, Demands}
+use Rattle.operation.specs.Demands.{keyOf, Rowed, RowFor, unasked, itsOperation, tally, ReaderRefuses, tells, handed, Joined, done, kept, Truthful, Demands}
 use Rattle.operation.specs.Model.{reader, writer, OnlyOne}
 use Rattle.operation.specs.Charts.{zeros, expected, starred, living}
 use Rattle.operation.proofs.Charts.{charts, rows-live}
@@ -72,6 +76,13 @@ reject-of-two = 0xEC ∷ 0x0A ∷ 0xCF ∷ 0x02 ∷ 0x05 ∷ 0x06 ∷ 0xD5 ∷ 0
 abbrev error-ended : Octets
 error-ended = 0xEB ∷ 0x03 ∷ 0xCF ∷ 0x01 ∷ 0x05 ∷ []
 
+-- a RESULT with every length padded
+abbrev padded : Octets
+padded = 0xEA ∷ 0x82 ∷ 0x00 ∷ 0x0C ∷ 0xCF ∷ 0x81 ∷ 0x01 ∷ 0x05 ∷ 0xF2 ∷ 0x82 ∷ 0x00 ∷ 0x04 ∷ 0x85 ∷ 0x82 ∷ 0x00 ∷ 0x00 ∷ []
+
+abbrev form-80 : Octets
+form-80 = 0xE9 ∷ 0x80 ∷ []
+
 chart-octets : AreOctets chart
 chart-octets = small chart (omega arith)
 
@@ -97,6 +108,10 @@ place-unread i source (e ∷ es) = rw (place-unread (i + 1) source es)
 abbrev number : Answer Told → ℕ
 number (accepted x) = 0
 number (refused n d) = n
+
+pub no-newcomer : (row : Row) (ps : List Parameter) → Joined row ps ps
+no-newcomer row [] = done
+no-newcomer row (p ∷ ps) = kept p (no-newcomer row ps)
 
 module _ (r : Reader) (w : Writer) (d : Demands r w) where
   ours-is : (s : Octets) (given : ℕ) (t : List ℕ) → AreOctets s → r s given t ≡ reader s given t
@@ -213,6 +228,25 @@ module _ (r : Reader) (w : Writer) (d : Demands r w) where
   -- 5 where the parent has ended, before 21 can be asked
   pub ended-before-the-code : r error-ended 0 zeros ≡ read (refused 5 5) zeros
   ended-before-the-code = ours-is error-ended 0 zeros (small error-ended (omega arith)) ∙ ap (at 38) rows-live
+
+  -- ---- padded lengths
+  pub leading-zero-taken : number (r padded 4 zeros .answer) ≡ 0
+  leading-zero-taken = ap (λ x. number (x .answer)) (ours-is padded 4 zeros (small padded (omega arith)) ∙ ap (at 44) rows-live)
+
+  pub form-80-refused : r form-80 0 zeros ≡ read (refused 4 1) zeros
+  form-80-refused = ours-is form-80 0 zeros (small form-80 (omega arith)) ∙ ap (at 48) rows-live
+
+  pub padding-not-copied : (s : Octets) (given : ℕ) (t : List ℕ) (out : Octets) {x : Told} {c : Component} → AreOctets s → r s given t .answer ≡ accepted x →
+      (h : Laid c s) → length s ≤ length out → (Shortest h → ⊥) → (n : ℕ) × (w (handed x (r s given t .table) s) out .answer ≡ accepted n) × (n < length s)
+  padding-not-copied s given t out {c = c} o e h room n =
+      let fewer : length (composed c) < length s = ask (decLe (length s) (length (composed c))) (λ l. absurd (n (shorter h .as-long l))) (λ m. omega arith) in
+      (length (composed c), ap (λ x. x .answer) (d .second .read-then-write s given t out o e h room .composes), fewer)
+
+  -- the same component in other lengths: demand 3 without a newcomer asks for no form of any length
+  pub lengths-change-nothing : (given : ℕ) (c : Component) (s u : Octets) (t : List ℕ) {row : Row} → AreOctets s → AreOctets u → tableSize ≤ length t →
+      (h : LaidOut c s) (k : LaidOut c u) → RowFor (c .kind) (itsOperation c given) row →
+      Truthful (h .laid) (k .laid) (no-newcomer row (c .parameters)) t (r s given t) (r u given t)
+  lengths-change-nothing given c s u t {row} o b enough h k e = d .third .truthful given c c s u t o b enough h k refl refl refl e (no-newcomer row (c .parameters))
 
   pub not-writing-nothing : ((o : Order) (out : Octets) → w o out .output ≡ out) → ⊥
   unfolding OnlyOne

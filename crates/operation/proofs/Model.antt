@@ -2,7 +2,7 @@
 use Prim.Native.Nat.{ℕ, zero, suc, _+_, _*_, _<_, _≤_}
 use mathlib.Core.Path.{_≡_, refl, sym, ap, ap₂, _∙_}
 use mathlib.Core.Bool.{Bool, true, false}
-use mathlib.Core.List.{List, [], _∷_, _++_, map}
+use mathlib.Core.List.{List, [], _∷_, map}
 use mathlib.Core.Logic.{_⊎_, inl, inr, ⊎-elim}
 use lib.ListN.{length, getD, take, drop}
 use lib.Dec.{eqb}
@@ -15,7 +15,8 @@ use Rattle.element.specs.Answer.{Answer, accepted, refused}
 use Rattle.component.specs.Layout.{Layout, layoutOf, operationPlace}
 use Rattle.component.specs.Grammar.{Laid, Component}
 use Rattle.component.specs.Standing.{Shows, Pairwise, standing}
-use Rattle.component.specs.Table.{width, tableSize, tableWith, held, heldFrom, parametersFrom, idOf, codeOf, writtenCode, componentOf}
+use Rattle.component.specs.Composed.{composed}
+use Rattle.component.specs.Table.{width, tableSize, tableWith, held, heldFrom, parametersFrom, codeOf, writtenCode, componentOf}
 use Rattle.component.specs.declared.Code as E
 use Rattle.component.specs.Types.{Typed, formatOf}
 use Rattle.element.specs.Output.{written, outputAfter}
@@ -24,13 +25,15 @@ use Rattle.component.proofs.Asking.{answered}
 use Rattle.component.proofs.Taken.{taken}
 use Rattle.component.proofs.Making.{makes, code-again, no-code, entries-again, octets-again}
 use Rattle.component.proofs.Composable.{Composable}
-use Rattle.component.proofs.Composes.{composes, is-composed, laid-composable}
+use Rattle.component.proofs.Composes.{composes, laid-composable}
+use Rattle.component.proofs.Shortening.{shorter}
 use Rattle.component.proofs.Entries.{as-many, holds, shown-are}
 use Rattle.component.proofs.Shown.{standing-show}
 use Rattle.component.proofs.Complete.{Reads}
 use Rattle.component.proofs.Typing.{of-typed}
 use Rattle.component.proofs.Deciding.{ask, decTyped, decAllowed}
 use Rattle.component.proofs.OneFault.{laid-out, faulty}
+use Rattle.component.proofs.Decoding.{functional}
 use Rattle.operation.specs.Row.{Row}
 use Rattle.operation.specs.Judge.{judge}
 use Rattle.operation.specs.Finding.{rowOf}
@@ -38,9 +41,9 @@ use Rattle.operation.specs.Reading.{Shown, operationIn, reading, reading
 use Rattle.operation.specs.Items.{itemOf, itemsOf}
 use Rattle.operation.specs.Writing.{writing}
 use Rattle.operation.specs.Codes.{operationOf, toldCode, heeded}
-use Rattle.operation.specs.Caller.{wrote, Told, Order}
+use Rattle.operation.specs.Caller.{Told, Order, Wrote}
 use Rattle.operation.specs.Told.{told}
-use Rattle.operation.specs.Demands.{Rowed, RowFor, listed, unasked, itsOperation, itsCode, octetsFor, ReadAgain, ReaderRefuses, Right, tells, Stands, ordered, needed, made, Held, Ready, WriterRefuses, Writable, Demand1, Demand2}
+use Rattle.operation.specs.Demands.{Rowed, RowFor, listed, unasked, itsOperation, itsCode, octetsFor, puts, handed, WrittenAgain, ReadAgain, ReaderRefuses, Right, tells, Stands, ordered, needed, made, Held, Ready, WriterRefuses, Writable, Demand1, Demand2}
 use Rattle.operation.specs.Model.{reader, writer, written-as}
 use Rattle.operation.proofs.Readings.{same-operation, either-row, row-ends}
 use Rattle.operation.proofs.RowsFound.{has-row, its-row, has-none}
@@ -215,39 +218,40 @@ module _ (kind : ℕ) (code : E.Code) where
   told-again = of-typed (λ kind. codeOf (toldCode kind (writtenCode kind code) (code .first)) ≡ heeded kind code) refl refl refl refl kind
 
 module _ (s : Octets) (given : ℕ) (t : List ℕ) (out : Octets) {c : Component} {row : Row} (r : Right s given t c row) (room : length s ≤ length out) where
-  -- what a reading of `s` hands on
-  abbrev handed : Order
-  handed = record { kind = c .kind; id = idOf (c .id); code = itsCode c given; count = length (c .parameters); table = tableWith (standing (r .laid-out .laid)) t; source = s }
-
-  composes-again : written-as handed (length out) ≡ accepted s
+  composes-again : written-as (handed (tells given c row) (tableWith (standing (r .laid-out .laid)) t) s) (length out) ≡ accepted (composed c)
   unfolding writing
   composes-again =
       let l = r .laid-out in
       let composable = laid-composable (l .laid) (l .within) in
-      let e = is-composed (l .laid) in
       let shows = standing-show (l .laid) in
       rw (
         ← as-many shows,
         entries-again c composable (l .few) shows t,
         its-row _ _ _ (handed-row c given (r .has-row)),
         fits-written row 0 (c .parameters) .1 (r .fits),
-        octets-again c composable _ (handed-code c given composable) (length out) (rw e at room),
-        ← e,
+        octets-again c composable _ (handed-code c given composable) (length out) (omega (arith, shorter (l .laid) .never-longer)),
       )
 
   handed-back : {x : Told} {after : List ℕ} → tells given c row ≡ x → after ≡ tableWith (standing (r .laid-out .laid)) t →
-      writer (record { kind = x .kind; id = x .id; code = x .code; count = x .all; table = after; source = s }) out
-      ≡ record { answer = accepted (length s); output = s ++ drop (length s) out }
+      writer (handed x after s) out ≡ puts (composed c) out
   unfolding written outputAfter
   handed-back p q = rw (← p, q, composes-again)
 
-reads-then-writes : (s : Octets) (given : ℕ) (t : List ℕ) (out : Octets) {x : Told} → AreOctets s → reader s given t .answer ≡ accepted x →
-    length s ≤ length out → writer (record { kind = x .kind; id = x .id; code = x .code; count = x .all; table = reader s given t .table; source = s }) out
-    ≡ record { answer = accepted (length s); output = s ++ drop (length s) out }
-reads-then-writes s given t out o e h =
-    let (c, row, r) = accepts-rightly s o given t e in
+written-again : {c : Component} {s : Octets} (h : Laid c s) (out : Octets) {after : Wrote} → after ≡ puts (composed c) out → WrittenAgain h out after
+written-again h out e =
+    record {
+      composes = e;
+      same = λ k. e ∙ ap (λ s. puts s out) (sym (shorter h .same k));
+      only = λ q. shorter h .as-long (omega (arith, inner (ap (λ w. w .answer) (sym e ∙ q))));
+    }
+
+reads-then-writes : (s : Octets) (given : ℕ) (t : List ℕ) (out : Octets) {x : Told} {c : Component} → AreOctets s → reader s given t .answer ≡ accepted x →
+    (h : Laid c s) → length s ≤ length out → WrittenAgain h out (writer (handed x (reader s given t .table) s) out)
+reads-then-writes s given t out o e h room =
+    let (d, row, r) = accepts-rightly s o given t e in
     let p = reader-accepts s o given t r in
-    handed-back s given t out r h (inner (sym (ap (λ x. x .answer) p) ∙ e)) (ap (λ x. x .table) p)
+    let back = handed-back s given t out r room (inner (sym (ap (λ x. x .answer) p) ∙ e)) (ap (λ x. x .table) p) in
+    written-again h out (back ∙ ap (λ c. puts (composed c) out) (functional (r .laid-out .laid) h))
 
 pub counted : (i n : ℕ) (t : List ℕ) (s : Octets) → length (parametersFrom i n t s) ≡ n
 unfolding parametersFrom heldFrom
@@ -255,7 +259,7 @@ counted i zero t s = refl
 counted i (suc n) t s = ap suc (counted (i + 1) n t s)
 
 module _ (o : Order) (out : Octets) where
-  writes-well : {row : Row} → Writable o out row → writer o out ≡ wrote (accepted (length (octetsFor o))) (octetsFor o ++ drop (length (octetsFor o)) out)
+  writes-well : {row : Row} → Writable o out row → writer o out ≡ puts (octetsFor o) out
   unfolding written outputAfter
   writes-well w = rw (writer-accepts o out w)
 

@@ -1,6 +1,7 @@
 -- The starred charts of the paper in one table; and, that no row is empty, for each row a component that it accepts,
 -- and one for each of 11 to 14 that it can refuse with; and, for a type without rows, one that is accepted and one for
--- each way its ID and its code can be refused. Each with what is told and what the lent table then holds.
+-- each way its ID and its code can be refused; and the forms of a length. Each with what is told and what the lent table
+-- then holds.
 use Prim.Native.Nat.{ℕ}
 use mathlib.Core.List.{List, [], _∷_, _++_}
 use lib.ListN.{length, drop, replicate}
@@ -219,4 +220,20 @@ living =
     ∷ refuses 0 (0xEC ∷ 0x08 ∷ 0xCF ∷ 0x00 ∷ 0xD4 ∷ 0x02 ∷ 0x01 ∷ 0x01 ∷ 0xF2 ∷ 0x00 ∷ []) 21 4
     -- REJECT: one octet of code
     ∷ refuses 0 (0xEC ∷ 0x07 ∷ 0xCF ∷ 0x00 ∷ 0xD5 ∷ 0x01 ∷ 0x01 ∷ 0xF2 ∷ 0x00 ∷ []) 21 4
+    -- padded lengths: accepted
+    ∷ takes 4 (0xEA ∷ 0x82 ∷ 0x00 ∷ 0x0C ∷ 0xCF ∷ 0x81 ∷ 0x01 ∷ 0x05 ∷ 0xF2 ∷ 0x82 ∷ 0x00 ∷ 0x04 ∷ 0x85 ∷ 0x82 ∷
+    0x00 ∷ 0x00 ∷ []) (said 0xEA 4 1 1 0) (5 ∷ 0 ∷ 16 ∷ 0 ∷ 12 ∷ [])
+    -- padded lengths: 12
+    ∷ refuses 4 (0xEA ∷ 0x82 ∷ 0x00 ∷ 0x0E ∷ 0xCF ∷ 0x81 ∷ 0x01 ∷ 0x05 ∷ 0xF2 ∷ 0x81 ∷ 0x07 ∷ 0x85 ∷ 0x82 ∷ 0x00 ∷
+    0x00 ∷ 0x85 ∷ 0x81 ∷ 0x00 ∷ []) 12 15
+    -- padded lengths: 11
+    ∷ refuses 0 (0xE9 ∷ 0x82 ∷ 0x00 ∷ 0x0D ∷ 0xCF ∷ 0x81 ∷ 0x01 ∷ 0x05 ∷ 0xD1 ∷ 0x82 ∷ 0x00 ∷ 0x02 ∷ 0x09 ∷ 0x00 ∷
+    0xF2 ∷ 0x81 ∷ 0x00 ∷ []) 11 13
+    -- 81 05 says five
+    ∷ refuses 0 (0xE9 ∷ 0x81 ∷ 0x05 ∷ []) 5 0
+    -- 80 says nothing, and 83 neither
+    ∷ refuses 0 (0xE9 ∷ 0x80 ∷ []) 4 1
+    ∷ refuses 0 (0xE9 ∷ 0x83 ∷ 0x00 ∷ 0x00 ∷ 0x00 ∷ []) 4 1
+    -- 82 and one octet
+    ∷ refuses 0 (0xE9 ∷ 0x82 ∷ 0x00 ∷ []) 4 1
     ∷ []

@@ -28,6 +28,7 @@ use Rattle.component.specs.Types.{Typed, Allowed}
 use Rattle.component.specs.Grammar.{Parameter, Laid, Component}
 use Rattle.component.specs.Faults.{Faulty, LaidOut}
 use Rattle.component.specs.Composed.{composed}
+use Rattle.component.specs.Shortest.{Shortest}
 use Rattle.component.specs.Standing.{Shows, Pairwise, standing, operationAt}
 use Rattle.component.specs.Needed.{octetsNeeded}
 use Rattle.operation.specs.Row.{Row, key, named as names}
@@ -36,7 +37,7 @@ use Rattle.operation.specs.Book.{Fits}
 use Rattle.operation.specs.Faults.{RowFault}
 use Rattle.operation.specs.Items.{itemOf, itemsOf}
 use Rattle.operation.specs.Codes.{operationOf, toldCode, heeded}
-use Rattle.operation.specs.Caller.{Told, Read, read, Reader, Order, order, wrote, Writer}
+use Rattle.operation.specs.Caller.{Told, Read, read, Reader, Order, order, Wrote, wrote, Writer}
 
 abbrev pub keyOf : Parameter → ℕ
 keyOf p = key (p .number) (p .form)
@@ -155,6 +156,21 @@ pub record Demand1 (r : Reader) (w : Writer) : Type 0 where
 
 -- ---- demand 2: accepted is exactly what is right; reading and writing undo one another
 
+-- so many octets are accepted, and stand in front of the output
+abbrev pub puts : Octets → (out : Octets) → Wrote
+puts s out = wrote (accepted (length s)) (s ++ drop (length s) out)
+
+-- what is ordered where a reading is handed on, with the component as source
+abbrev pub handed : Told → List ℕ → Octets → Order
+handed x t s = order (x .kind) (x .id) (x .code) (x .all) t s
+
+-- what was laid out in `s` is written again: with every length at its shortest, so that these are the same octets exactly
+-- when it was so in `s`
+pub record WrittenAgain {c : Component} {s : Octets} (h : Laid c s) (out : Octets) (after : Wrote) : Type 0 where
+  pub composes : after ≡ puts (composed c) out
+  pub same : Shortest h → after ≡ puts s out
+  pub only : after ≡ puts s out → Shortest h
+
 -- what was ordered is read again from its octets: type, ID octets, code, identifiers and contents; a RESULT by the
 -- specifier that it was ordered with
 pub record ReadAgain (r : Reader) (o : Order) (s : Octets) (t : List ℕ) : Type 0 where
@@ -177,13 +193,11 @@ pub record Demand2 (r : Reader) (w : Writer) : Type 0 where
       Right s given t c row →
       Pairwise (Shows s) (heldFrom 0 (length (c .parameters)) (r s given t .table)) (c .parameters)
   pub writer : (o : Order) (out : Octets) {n : ℕ} → w o out .answer ≡ accepted n → (row : Row) × Writable o out row
-  pub written : (o : Order) (out : Octets) {row : Row} → Writable o out row →
-      w o out ≡ wrote (accepted (length (octetsFor o))) (octetsFor o ++ drop (length (octetsFor o)) out)
-  -- writing what was read returns the same octets
-  pub read-then-write : (s : Octets) (given : ℕ) (t : List ℕ) (out : Octets) {x : Told} → AreOctets s →
-      r s given t .answer ≡ accepted x → length s ≤ length out →
-      w (order (x .kind) (x .id) (x .code) (x .all) (r s given t .table) s) out
-      ≡ wrote (accepted (length s)) (s ++ drop (length s) out)
+  pub written : (o : Order) (out : Octets) {row : Row} → Writable o out row → w o out ≡ puts (octetsFor o) out
+  -- writing what was read, into an output as long
+  pub read-then-write : (s : Octets) (given : ℕ) (t : List ℕ) (out : Octets) {x : Told} {c : Component} → AreOctets s →
+      r s given t .answer ≡ accepted x → (h : Laid c s) → length s ≤ length out →
+      WrittenAgain h out (w (handed x (r s given t .table) s) out)
   -- reading what was written returns what was ordered
   pub write-then-read : (o : Order) (out : Octets) (t : List ℕ) {n : ℕ} → w o out .answer ≡ accepted n →
       tableSize ≤ length t → AreOctets (take n (w o out .output)) →

@@ -2,7 +2,7 @@
 
 use super::parts::{parts, sound, Part};
 use super::{filling, Case};
-use crate::generate::draft::{Draft, Element, Length};
+use crate::generate::draft::{Draft, Element, Form, Length};
 use crate::types::{CodeElement, ComponentType, TYPES};
 
 pub fn cases() -> Vec<Case> {
@@ -36,15 +36,17 @@ fn other_octets(kind: &ComponentType, part: Part) -> Vec<Case> {
     (0..8).map(changed).collect()
 }
 
-/// A length of another form or another value, the rest sound.
+/// A length of another value in each form, or of wrong form, the rest sound.
 fn other_lengths(kind: &ComponentType, part: Part) -> Vec<Case> {
     let lengths = [
-        Length::Wide(0x81),
-        Length::Wide(0x82),
-        Length::Off(1),
-        Length::Off(-1),
-        Length::Off(200),
-        Length::Off(4096),
+        Length::Off(Form::Shortest, 1),
+        Length::Off(Form::Shortest, -1),
+        Length::Off(Form::With81, 1),
+        Length::Off(Form::With81, -1),
+        Length::Off(Form::With82, 1),
+        Length::Off(Form::With82, -1),
+        Length::Off(Form::Shortest, 200),
+        Length::Off(Form::Shortest, 4096),
         Length::Raw(Vec::new()),
         Length::Raw(vec![0x80]),
         Length::Raw(vec![0x83, 0x00, 0x00, 0x05]),
@@ -57,8 +59,8 @@ fn other_lengths(kind: &ComponentType, part: Part) -> Vec<Case> {
     lengths.map(changed).into()
 }
 
-/// Length fields of wrong form, not shortest, or cut where they end.
-const BAD_FIELDS: [&[u8]; 16] = [
+/// Length fields of wrong form, or cut where they end.
+const BAD_FIELDS: [&[u8]; 9] = [
     &[],
     &[0x80],
     &[0x83],
@@ -68,23 +70,24 @@ const BAD_FIELDS: [&[u8]; 16] = [
     &[0x82, 0x00],
     &[0x82, 0x01],
     &[0x82, 0xFF],
-    &[0x81, 0x00],
-    &[0x81, 0x05],
-    &[0x81, 0x7F],
-    &[0x82, 0x00, 0x00],
-    &[0x82, 0x00, 0x05],
-    &[0x82, 0x00, 0x80],
-    &[0x82, 0x00, 0xFF],
 ];
 
-/// Each form of the length with the contents' count that it gives.
-const FIELDS: [(&[u8], usize); 6] = [
+/// Each form of the length with the contents' count that it gives, first the
+/// shortest ones, then those that are padded.
+const FIELDS: [(&[u8], usize); 13] = [
     (&[0x01], 1),
     (&[0x03], 3),
     (&[0x7F], 127),
     (&[0x81, 0x80], 128),
     (&[0x81, 0xFF], 255),
     (&[0x82, 0x01, 0x00], 256),
+    (&[0x81, 0x00], 0),
+    (&[0x81, 0x05], 5),
+    (&[0x81, 0x7F], 127),
+    (&[0x82, 0x00, 0x00], 0),
+    (&[0x82, 0x00, 0x05], 5),
+    (&[0x82, 0x00, 0x80], 128),
+    (&[0x82, 0x00, 0xFF], 255),
 ];
 
 /// The part stands last and all its parents end with it: within its
@@ -99,7 +102,7 @@ fn endings(kind: &ComponentType, part: Part) -> Vec<Case> {
         ends.push([&identifier, field].concat());
     }
     for (field, count) in FIELDS {
-        for there in [0, count - 1, count] {
+        for there in [0, count.saturating_sub(1), count] {
             ends.push([&identifier, field, &filling(there)].concat());
         }
     }

@@ -57,7 +57,10 @@ fn edges(kind: &ComponentType) -> Vec<Case> {
 }
 
 fn fitted(kind: &ComponentType, target: usize, measured: fn(&Draft) -> usize) -> Draft {
-    let mut draft = sound(kind);
+    fit(sound(kind), target, measured)
+}
+
+pub fn fit(mut draft: Draft, target: usize, measured: fn(&Draft) -> usize) -> Draft {
     draft.fit(&mut Random::new(0), target, measured);
     draft
 }
@@ -95,7 +98,7 @@ fn again_as_last(row: &Row, one: Identifier) -> List {
     with(&list, &[one])
 }
 
-fn crowd(count: usize) -> Draft {
+pub fn crowd(count: usize) -> Draft {
     draft(nameless(), &vec![OTHER; count])
 }
 

@@ -2,8 +2,8 @@
 //! asked at one element, and the layout's before the row's.
 
 use super::parts::{parts, sound, Part};
-use super::{filling, parameter, Case};
-use crate::generate::draft::{Draft, Length};
+use super::{filling, padded, parameter, Case, PADDED};
+use crate::generate::draft::{Draft, Form, Length};
 use crate::rows::Identifier;
 use crate::types::{ComponentType, INVOKE, TYPES};
 
@@ -41,6 +41,7 @@ pub fn cases() -> Vec<Case> {
                     .into_iter()
                     .map(|draft| broken(draft, *first)),
             );
+            cases.extend(behind_padded(kind, *first));
         }
         cases.extend(refused_by_row(kind).iter().map(Case::of));
     }
@@ -66,13 +67,18 @@ fn broken(mut draft: Draft, fault: (Part, Fault)) -> Case {
     Case::of(&draft)
 }
 
+/// The place that is given moves with the padding before it.
+fn behind_padded(kind: &ComponentType, fault: (Part, Fault)) -> [Case; 2] {
+    PADDED.map(|forms| broken(padded(sound(kind), forms), fault))
+}
+
 /// What an element cannot have is left out: the case is then made twice, and
 /// kept once.
 fn put(draft: &mut Draft, (part, fault): (Part, Fault)) {
     match (fault, part) {
         (Fault::Octet, _) => part.begin_with(draft, 0x00),
         (Fault::Field, _) => part.set_length(draft, Length::Raw(vec![0x80])),
-        (Fault::PastTheEnd, _) => part.set_length(draft, Length::Off(300)),
+        (Fault::PastTheEnd, _) => part.set_length(draft, Length::Off(Form::Shortest, 300)),
         (Fault::LeftOver, Part::Whole) => draft.behind = filling(1),
         (Fault::LeftOver, Part::Set) => draft.behind_set = filling(2),
         (Fault::Size, Part::Id) => draft.id.as_mut().expect("an ID").contents = filling(3),

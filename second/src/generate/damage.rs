@@ -1,7 +1,7 @@
 //! The damages: each breaks one thing, or does something that looks broken
 //! and is not.
 
-use super::draft::{element, identifier, Draft, Element, Length};
+use super::draft::{element, identifier, Draft, Element, Form, Length};
 use super::{choice_members, draw_kind, draw_named, draw_other, draw_rowless, NUMBERS};
 use crate::random::Random;
 use crate::types::{self, INVOKE};
@@ -35,8 +35,8 @@ const DAMAGES: [Damage; 47] = [
     leading_80,
     long_form_below_31,
     identifier_cut,
-    wide_length,
-    wide_length,
+    padded_length,
+    padded_length,
     wrong_length_form,
     wrong_length_form,
     length_off,
@@ -99,7 +99,9 @@ fn no_code(_: &mut Random, draft: &mut Draft) {
 /// An INVOKE with a problem, a RESULT with an error, and so on.
 fn other_type_s_code(random: &mut Random, draft: &mut Draft) {
     let kind = types::of(draw_kind(random));
-    draft.code = Element::code(kind, [random.octet(), random.octet()]);
+    let length = draft.draw_length(random);
+    let code = Element::code(kind, [random.octet(), random.octet()]);
+    draft.code = code.map(|code| Element { length, ..code });
 }
 
 /// Mostly what stands there in another type.
@@ -123,13 +125,13 @@ fn wrong_code_length(random: &mut Random, draft: &mut Draft) {
     }
 }
 
-/// Ill formed, not shortest, or of contents that run past the parent.
+/// Ill formed, or of contents that run past the parent.
 fn wrong_code_field(random: &mut Random, draft: &mut Draft) {
-    let length = match random.below(4) {
-        0 => Length::Wide(random.pick(&[0x81, 0x82])),
-        1 => Length::Raw(vec![random.pick(&[0x80, 0x83, 0xFF])]),
-        2 => Length::Off(random.pick(&[100, 127, 250])),
-        _ => Length::Off(random.pick(&[1000, 4096, 60000])),
+    let form = random.pick(draft.forms);
+    let length = match random.below(3) {
+        0 => Length::Raw(vec![random.pick(&[0x80, 0x83, 0xFF])]),
+        1 => Length::Off(form, random.pick(&[100, 127, 250])),
+        _ => Length::Off(form, random.pick(&[1000, 4096, 60000])),
     };
     if let Some(code) = &mut draft.code {
         code.length = length;
@@ -141,8 +143,8 @@ fn wrong_code_field(random: &mut Random, draft: &mut Draft) {
 fn cut_at_code(random: &mut Random, draft: &mut Draft) {
     let length = match random.below(4) {
         0 => Length::Raw(vec![0x81]),
-        1 => Length::Raw(vec![0x82, 0x01]),
-        _ => Length::Shortest,
+        1 => Length::Raw(vec![0x82, random.pick(&[0x00, 0x01])]),
+        _ => draft.draw_length(random),
     };
     if let Some(code) = &mut draft.code {
         code.length = length;
@@ -179,7 +181,8 @@ fn no_row(random: &mut Random, draft: &mut Draft) {
 }
 
 /// Puts a parameter anywhere among the others.
-fn insert(random: &mut Random, draft: &mut Draft, parameter: Element) {
+fn insert(random: &mut Random, draft: &mut Draft, mut parameter: Element) {
+    parameter.length = draft.draw_length(random);
     let at = random.below(draft.parameters.len() + 1);
     draft.parameters.insert(at, parameter);
 }
@@ -254,9 +257,10 @@ fn any_length<'a>(random: &mut Random, draft: &'a mut Draft) -> &'a mut Length {
     }
 }
 
-fn wide_length(random: &mut Random, draft: &mut Draft) {
-    let wide = random.pick(&[0x81, 0x82]);
-    *any_length(random, draft) = Length::Wide(wide);
+/// One padded length, mostly the only one: no fault.
+fn padded_length(random: &mut Random, draft: &mut Draft) {
+    let form = random.pick(&[Form::With81, Form::With82]);
+    *any_length(random, draft) = Length::True(form);
 }
 
 fn wrong_length_form(random: &mut Random, draft: &mut Draft) {
@@ -281,17 +285,19 @@ fn length_off(random: &mut Random, draft: &mut Draft) {
         8 => random.pick(&[100, 127, 128, 255, 256]),
         _ => random.pick(&[4095, 4096, 30000, 60000]),
     };
-    *any_length(random, draft) = Length::Off(off);
+    let form = random.pick(draft.forms);
+    *any_length(random, draft) = Length::Off(form, off);
 }
 
 /// The set ends before or within the last length field.
 fn length_cut_in_set(random: &mut Random, draft: &mut Draft) {
     let number = random.pick(&NUMBERS);
     let mut last = Element::new(identifier(number, random.percent(50)), Vec::new());
-    let octets: &[u8] = match random.below(4) {
+    let octets: &[u8] = match random.below(5) {
         0 => &[],
         1 => &[0x81],
         2 => &[0x82],
+        3 => &[0x82, 0x00],
         _ => &[0x82, 0x01],
     };
     last.length = Length::Raw(octets.to_vec());

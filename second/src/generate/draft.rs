@@ -6,14 +6,30 @@ use crate::random::Random;
 use crate::rows::Row;
 use crate::types::{Code, ComponentType};
 
+/// The form of a length field: each is taken for any length that it can say.
+#[derive(Clone, Copy)]
+pub enum Form {
+    Shortest,
+    /// 81 and one octet, or 82 and two: padded where a shorter form would do.
+    /// Of a length that 81 cannot say it is the shortest.
+    With81,
+    With82,
+}
+
+/// Forms from which each length field of a component is taken.
+pub type Forms = &'static [Form];
+
+pub const SHORTEST: Forms = &[Form::Shortest];
+pub const WITH_81: Forms = &[Form::With81];
+pub const WITH_82: Forms = &[Form::With82];
+pub const ANY_FORM: Forms = &[Form::Shortest, Form::With81, Form::With82];
+
 /// How a length field is made.
 #[derive(Clone)]
 pub enum Length {
-    Shortest,
-    /// The shortest form of the true length plus this many octets.
-    Off(i32),
-    /// 81 or 82 also where a shorter form would do.
-    Wide(u8),
+    True(Form),
+    /// Of so many octets more than there are.
+    Off(Form, i32),
     /// These octets instead of a field.
     Raw(Vec<u8>),
 }
@@ -30,6 +46,8 @@ pub struct Element {
 #[derive(Clone)]
 pub struct Draft {
     pub row: &'static Row,
+    /// For the lengths of elements that are put in later.
+    pub forms: Forms,
     pub kind: u8,
     /// The caller's.
     pub specifier: u8,
@@ -52,7 +70,7 @@ impl Element {
     pub fn new(identifier: Vec<u8>, contents: Vec<u8>) -> Element {
         Element {
             identifier,
-            length: Length::Shortest,
+            length: Length::True(Form::Shortest),
             contents,
         }
     }
@@ -79,26 +97,35 @@ impl Element {
     }
 }
 
+impl Form {
+    pub fn octets(self, length: usize) -> Vec<u8> {
+        let [high, low] = [(length >> 8) as u8, length as u8];
+        match (self, length) {
+            (Form::Shortest, 0..=0x7F) => vec![low],
+            (Form::Shortest | Form::With81, 0..=0xFF) => vec![0x81, low],
+            _ => vec![0x82, high, low],
+        }
+    }
+}
+
 impl Length {
     fn octets(&self, length: usize) -> Vec<u8> {
         match self {
-            Length::Shortest => shortest(length),
-            Length::Off(off) => shortest(length.saturating_add_signed(*off as isize)),
-            Length::Wide(0x81) => vec![0x81, length as u8],
-            Length::Wide(_) => vec![0x82, (length >> 8) as u8, length as u8],
+            Length::True(form) => form.octets(length),
+            Length::Off(form, off) => form.octets(length.saturating_add_signed(*off as isize)),
             Length::Raw(octets) => octets.clone(),
         }
     }
 }
 
-fn shortest(length: usize) -> Vec<u8> {
-    let two = [(length >> 8) as u8, length as u8];
-    if length < 128 {
-        vec![two[1]]
-    } else if length < 256 {
-        vec![0x81, two[1]]
-    } else {
-        vec![0x82, two[0], two[1]]
+/// Two of five components come from switches that pad: some of their lengths,
+/// or all in one form.
+pub fn draw_forms(random: &mut Random) -> Forms {
+    match random.below(100) {
+        0..=59 => SHORTEST,
+        60..=79 => ANY_FORM,
+        80..=89 => WITH_81,
+        _ => WITH_82,
     }
 }
 
@@ -142,13 +169,14 @@ impl Draft {
         let code = Element::code(subject.kind, subject.code);
         Draft {
             row: subject.row,
+            forms: SHORTEST,
             kind: subject.kind.octet,
             specifier: code.as_ref().map_or(subject.code[0], |_| 0),
-            outer: Length::Shortest,
+            outer: Length::True(Form::Shortest),
             id: Some(Element::new(vec![0xCF], vec![0x05])),
             code,
             set_identifier: Some(0xF2),
-            set_length: Length::Shortest,
+            set_length: Length::True(Form::Shortest),
             parameters,
             set_cut: None,
             body_cut: None,
@@ -167,7 +195,31 @@ impl Draft {
         let mut draft = Draft::of(subject, parameters);
         draft.id = Some(Element::new(vec![0xCF], id));
         draft.specifier = caller;
+        let forms = draw_forms(random);
+        draft.pad(random, forms);
         draft
+    }
+
+    /// Makes every length field a true one, in these forms.
+    pub fn pad(&mut self, random: &mut Random, forms: Forms) {
+        self.forms = forms;
+        for length in self.lengths() {
+            *length = Length::True(random.pick(forms));
+        }
+    }
+
+    /// The length fields from left to right.
+    pub fn lengths(&mut self) -> Vec<&mut Length> {
+        let head = self.id.iter_mut().chain(&mut self.code);
+        let head = head.map(|one| &mut one.length);
+        let parameters = self.parameters.iter_mut().map(|one| &mut one.length);
+        let body = head.chain([&mut self.set_length]).chain(parameters);
+        [&mut self.outer].into_iter().chain(body).collect()
+    }
+
+    /// For an element that is put in later.
+    pub fn draw_length(&self, random: &mut Random) -> Length {
+        Length::True(random.pick(self.forms))
     }
 
     pub fn set_contents(&self) -> Vec<u8> {
@@ -215,7 +267,8 @@ impl Draft {
     /// Adds a filler whose contents bring the measured count to the target,
     /// or near it where a longer length field leaps over it.
     pub fn fit(&mut self, random: &mut Random, target: usize, measured: fn(&Draft) -> usize) {
-        let filler = Element::new(identifier(FILLER, random.percent(50)), Vec::new());
+        let mut filler = Element::new(identifier(FILLER, random.percent(50)), Vec::new());
+        filler.length = self.draw_length(random);
         let at = random.below(self.parameters.len() + 1);
         self.parameters.insert(at, filler);
         for _ in 0..6 {

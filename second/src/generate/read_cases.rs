@@ -1,7 +1,7 @@
 //! Whole cases for the reader.
 
 use super::damage;
-use super::draft::{element, Draft};
+use super::draft::{draw_forms, element, Draft};
 use super::{draw_kind, draw_named, draw_subject, Subject};
 use crate::random::Random;
 use crate::reader::{MOST_PARAMETERS, TABLE_NUMBERS};
@@ -110,7 +110,8 @@ fn crowded(random: &mut Random) -> (Vec<u8>, u8) {
     finished(&draft)
 }
 
-/// Edges of the length forms, for the whole, the body and the set.
+/// Edges of the length forms, for the whole, the body and the set. Where
+/// lengths are padded, these are the octets with their padding.
 fn sized(random: &mut Random) -> (Vec<u8>, u8) {
     let mut draft = draft(random);
     let target = random.pick(&[126, 127, 128, 129, 254, 255, 256, 257]);
@@ -126,6 +127,8 @@ fn sized(random: &mut Random) -> (Vec<u8>, u8) {
     finished(&draft)
 }
 
+/// Around 4,096 octets with their padding: of a padded component of 4,097,
+/// which is refused, the shortest form fits.
 fn sized_large(random: &mut Random) -> (Vec<u8>, u8) {
     let mut draft = draft(random);
     if random.percent(20) {
@@ -182,11 +185,13 @@ fn noise(random: &mut Random) -> (Vec<u8>, u8) {
 /// Right outer length, anything in the body.
 fn noisy_body(random: &mut Random) -> (Vec<u8>, u8) {
     let count = random.below(24);
-    let mut octets = vec![draw_kind(random), count as u8];
-    octets.extend(random.octets(count));
+    let mut body = random.octets(count);
     if random.percent(80) && count > 0 {
-        octets[2] = 0xCF;
+        body[0] = 0xCF;
     }
+    let forms = draw_forms(random);
+    let field = random.pick(forms).octets(count);
+    let octets = [vec![draw_kind(random)], field, body].concat();
     (octets, random.pick(&[4, 13, 14, 26, 64, 101]))
 }
 
@@ -198,6 +203,7 @@ fn noisy_set(random: &mut Random) -> (Vec<u8>, u8) {
         let drawn = draw_named(random, 0);
         let mut one = element(random, drawn);
         one.identifier = vec![random.octet() & 0x3F | 0x80];
+        one.length = draft.draw_length(random);
         one.contents.truncate(4);
         parameters.push(one);
     }

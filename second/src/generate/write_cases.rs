@@ -1,9 +1,9 @@
 //! Whole cases for the writer.
 
 use super::{choice_members, draw_id_count, draw_named, draw_other, draw_parameters};
-use super::{draw_rowless, draw_subject, Drawn, Subject, FILLER};
+use super::{draw_rowless, draw_subject, read_case, Drawn, Subject, FILLER};
 use crate::random::Random;
-use crate::reader::ENTRY_NUMBERS;
+use crate::reader::{self, Accepted, ENTRY_NUMBERS, TABLE_NUMBERS};
 use crate::rows::Row;
 use crate::types::REJECT;
 use crate::writer::{self, Head};
@@ -77,7 +77,11 @@ const DAMAGES: [Damage; 31] = [
     crowd,
 ];
 
+/// One in ten is what a reading gave.
 pub fn write_case(random: &mut Random) -> WriteCase {
+    if random.percent(10) {
+        return as_read(random);
+    }
     let mut draft = Draft::valid(random);
     match random.below(2000) {
         0..=699 => {}
@@ -91,6 +95,35 @@ pub fn write_case(random: &mut Random) -> WriteCase {
         _ => longest(random, &mut draft),
     }
     draft.finish(random)
+}
+
+/// What was read of a component, which may be padded, is written again from
+/// the component itself.
+fn as_read(random: &mut Random) -> WriteCase {
+    loop {
+        let case = read_case(random);
+        let mut table = vec![0; TABLE_NUMBERS];
+        if let Ok(accepted) = reader::read(&case.component, case.specifier, &mut table) {
+            table.truncate(ENTRY_NUMBERS * accepted.all);
+            return again(random, &accepted, table, case.component);
+        }
+    }
+}
+
+/// Into as many octets as the component has, as many as its shortest form
+/// needs, or one fewer than either.
+fn again(random: &mut Random, accepted: &Accepted, table: Vec<u16>, source: Vec<u8>) -> WriteCase {
+    let head = Head::of(accepted);
+    let refusal = writer::write(head, accepted.all, &table, &source, &mut []);
+    let needed = refusal.expect_err("no output").detail as usize;
+    let less = random.pick(&[0, 0, 1]);
+    WriteCase {
+        head,
+        entries: accepted.all,
+        output: random.pick(&[source.len(), needed]) - less,
+        table,
+        source,
+    }
 }
 
 /// Mostly one, sometimes more, for the order among the numbers.
@@ -228,7 +261,8 @@ const PLACES: [Place; 6] = [
     |random, _| random.draw() as u16,
 ];
 
-/// Where a reader that found the contents at this start found the identifier.
+/// Where a reader that found the contents at this start found the identifier,
+/// if the length was not padded.
 fn right_place(entry: &Entry) -> u16 {
     let [number, _, start, length, _] = *entry;
     let octets = writer::identifier_size(number) + writer::field_size(usize::from(length));

@@ -1,8 +1,7 @@
 -- `component::put_length` meets its contract.
 -- Assumes nothing.
 use borrow.Author.Needs.{needs}
-use Rattle.element.specs.Length.{short}
-use Rattle.element.proofs.LengthLaws.{sizes, octets}
+use Rattle.element.proofs.LengthLaws.{short, sizes, octets}
 use Rattle.component.proofs.Putting.{by-value, value-room}
 use Rattle.component.proofs.composing.put_length.Statement.{statement}
 use Rattle.component.proofs.composing.put_length.Tie as tie
