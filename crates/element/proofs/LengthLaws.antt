@@ -39,7 +39,7 @@ small n e =
 pub short : (n : ℕ) → n < 65536 → LengthField n (shortest n)
 short n h =
     let e : n / 256 * 256 + n % 256 ≡ n = omega arith in
-    by-size (LengthField n) n one (λ _. two) λ _. rw e at (three {high = n / 256} {low = n % 256} (omega arith) (omega arith))
+    by-size (LengthField n) n one (λ _. two) λ a. rw e at (three {high = n / 256} {low = n % 256} (omega arith) (omega arith))
 
 pub least : {n m : ℕ} {field : Octets} → LengthField n field → m ≤ n → length (shortest m) ≤ length field
 least {m = m} (one h) l = by-size (λ f. length f ≤ 1) m (λ a. omega arith) (λ a b. omega arith) (λ a. omega arith)
