@@ -184,7 +184,7 @@ module _ (o : Order) where
 pub demand1-ours : Demand1 reader writer
 demand1-ours = record { reader = λ s given t o e. refuses-rightly s o given t e; writer = λ o out e. writes-refusing o out e }
 
--- ---- reading and writing undo one another
+-- ---- what was read is written again, and what was written is read again
 inner : {A : Type 0} {x y : A} → _≡_ {A = Answer A} (accepted x) (accepted y) → x ≡ y
 inner e = cc
 

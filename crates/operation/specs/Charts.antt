@@ -1,7 +1,7 @@
 -- The starred charts of the paper in one table; and, that no row is empty, for each row a component that it accepts,
 -- and one for each of 11 to 14 that it can refuse with; and, for a type without rows, one that is accepted and one for
--- each way its ID and its code can be refused; and the forms of a length. Each with what is told and what the lent table
--- then holds.
+-- each way its ID and its code can be refused; and the forms of a length. Each with what is told and what the lent
+-- table then holds.
 use Prim.Native.Nat.{ℕ}
 use mathlib.Core.List.{List, [], _∷_, _++_}
 use lib.ListN.{length, drop, replicate}

@@ -154,18 +154,18 @@ pub record Demand1 (r : Reader) (w : Writer) : Type 0 where
   pub writer : (o : Order) (out : Octets) {n d : ℕ} → w o out .answer ≡ refused n d →
       WriterRefuses o out n d × (w o out .output ≡ out)
 
--- ---- demand 2: accepted is exactly what is right; reading and writing undo one another
+-- ---- demand 2: accepted is exactly what is right; what was read is written again, and what was written is read again
 
--- so many octets are accepted, and stand in front of the output
+-- these octets are written: so many are accepted, and they stand in front of the output
 abbrev pub puts : Octets → (out : Octets) → Wrote
 puts s out = wrote (accepted (length s)) (s ++ drop (length s) out)
 
--- what is ordered where a reading is handed on, with the component as source
+-- what a reading hands on to a writer, with the component as source
 abbrev pub handed : Told → List ℕ → Octets → Order
 handed x t s = order (x .kind) (x .id) (x .code) (x .all) t s
 
--- what was laid out in `s` is written again: with every length at its shortest, so that these are the same octets exactly
--- when it was so in `s`
+-- what was laid out in `s` is written again with every length at its shortest: the same octets exactly when every
+-- length of `s` was so already
 pub record WrittenAgain {c : Component} {s : Octets} (h : Laid c s) (out : Octets) (after : Wrote) : Type 0 where
   pub composes : after ≡ puts (composed c) out
   pub same : Shortest h → after ≡ puts s out
