@@ -2,6 +2,7 @@
 use Prim.Native.Nat.{ℕ, suc, _+_, _*_, _/_, _%_, _<_, _≤_}
 use mathlib.Core.Path.{_≡_, refl}
 use mathlib.Core.List.{[], _∷_, _++_}
+use mathlib.Core.Logic.{_⊎_, inl, inr}
 use lib.ListN.{length, take, getD}
 use lib.Seq.{length-take-le}
 use lib.Dec.{leb·suc-zero}
@@ -109,6 +110,14 @@ pub sizes : {n : ℕ} {field : Octets} → LengthField n field → (1 ≤ length
 sizes (one h) = omega arith
 sizes (two h) = omega arith
 sizes (three h k) = omega arith
+
+-- 80 and 83 to FF begin no field
+pub begins : {n : ℕ} {field : Octets} → LengthField n field → (rest : Octets) {a : ℕ} {s : Octets} → a ∷ s ≡ field ++ rest → (a < 128) ⊎ (a ≡ 0x81) ⊎ (a ≡ 0x82)
+begins (one {n} h) rest {a} e =
+    let p : n ≡ a = cc in
+    inl (rw p at h)
+begins (two h) rest e = inr (inl (cc))
+begins (three h k) rest e = inr (inr (cc))
 
 pub bounded : {n : ℕ} {field : Octets} → LengthField n field → n < 65536
 bounded (one h) = omega arith

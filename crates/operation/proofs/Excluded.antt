@@ -230,8 +230,8 @@ module _ (r : Reader) (w : Writer) (d : Demands r w) where
   ended-before-the-code = ours-is error-ended 0 zeros (small error-ended (omega arith)) ∙ ap (at 38) rows-live
 
   -- ---- padded lengths
-  pub leading-zero-taken : number (r padded 4 zeros .answer) ≡ 0
-  leading-zero-taken = ap (λ x. number (x .answer)) (ours-is padded 4 zeros (small padded (omega arith)) ∙ ap (at 44) rows-live)
+  pub leading-zero-taken : r padded 4 zeros ≡ read (accepted (record { kind = 0xEA; id = record { count = 1; first = 5; second = 0 }; code = record { first = 4; second = 0 }; all = 1; named = 1; other = 0 })) (5 ∷ 0 ∷ 16 ∷ 0 ∷ 12 ∷ replicate 315 0)
+  leading-zero-taken = ours-is padded 4 zeros (small padded (omega arith)) ∙ ap (at 44) rows-live
 
   pub form-80-refused : r form-80 0 zeros ≡ read (refused 4 1) zeros
   form-80-refused = ours-is form-80 0 zeros (small form-80 (omega arith)) ∙ ap (at 48) rows-live
