@@ -23,26 +23,18 @@ use Rattle.component.proofs.Typing.{of-each}
 use Rattle.component.specs.Onward.{spanOn, entryOn, headOn, layoutOn, answerOn, keeps}
 
 -- ---- tests of two places that are moved alike
+alike : {t u : Bool} → (t ≡ true → u ≡ true) → (t ≡ false → u ≡ false) → u ≡ t
+alike {t = true} y n = y refl
+alike {t = false} y n = n refl
+
 leb-on : (n a b : ℕ) → leb (n + a) (n + b) ≡ leb a b
-leb-on n a b = go (leb a b) refl
-  where
-    go : (t : Bool) → leb a b ≡ t → leb (n + a) (n + b) ≡ t
-    go true e = le-leb (n + a) (n + b) (omega (arith, leb-true a b e))
-    go false e = lt-leb (n + a) (n + b) (omega (arith, leb-false a b e))
+leb-on n a b = alike (λ e. le-leb (n + a) (n + b) (omega (arith, leb-true a b e))) (λ e. lt-leb (n + a) (n + b) (omega (arith, leb-false a b e)))
 
 ltb-on : (n a b : ℕ) → ltb (n + a) (n + b) ≡ ltb a b
-ltb-on n a b = go (ltb a b) refl
-  where
-    go : (t : Bool) → ltb a b ≡ t → ltb (n + a) (n + b) ≡ t
-    go true e = lt-ltb (n + a) (n + b) (omega (arith, ltb-true a b e))
-    go false e = le-ltb (n + a) (n + b) (omega (arith, ltb-false a b e))
+ltb-on n a b = alike (λ e. lt-ltb (n + a) (n + b) (omega (arith, ltb-true a b e))) (λ e. le-ltb (n + a) (n + b) (omega (arith, ltb-false a b e)))
 
 eqb-on : (n a b : ℕ) → eqb (n + a) (n + b) ≡ eqb a b
-eqb-on n a b = go (eqb a b) refl
-  where
-    go : (t : Bool) → eqb a b ≡ t → eqb (n + a) (n + b) ≡ t
-    go true e = eq-eqb (n + a) (n + b) (omega (arith, eqb-true a b e))
-    go false e = ne-eqb (n + a) (n + b) (λ h. eqb-false a b e (omega arith))
+eqb-on n a b = alike (λ e. eq-eqb (n + a) (n + b) (omega (arith, eqb-true a b e))) (λ e. ne-eqb (n + a) (n + b) (λ h. eqb-false a b e (omega arith)))
 
 less-on : (n a b : ℕ) → (n + a) - (n + b) ≡ a - b
 less-on n a b = omega arith

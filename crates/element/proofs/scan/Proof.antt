@@ -24,44 +24,17 @@ octets-holds c = (search needs, search needs, search needs, begins _ _)
 returns : tie.Need-returns Inv-octets μ-octets
 returns c = cut _ _ _ _ (omega arith) (c .if1 .taken) ∙ sym (c .before .before .octets .inv .3)
 
-shared-slice-read-double : tie.Need-shared-slice-read-double Inv-octets μ-octets
-shared-slice-read-double c = search needs
-
-double-requires : tie.Need-double-requires Inv-octets μ-octets
-double-requires c κs = search needs
-
-mul-number : tie.Need-mul-number Inv-octets μ-octets
-mul-number c = search needs
-
-add-number : tie.Need-add-number Inv-octets μ-octets
-add-number c = search needs
-
 returns-2 : tie.Need-returns-2 Inv-octets μ-octets
 returns-2 c = too-small _ _ _ (c .if3 .taken) ∙ ends _ _ _ _ (omega arith) _ (c .before .before .double .ensures .0) (omega arith) (c .before .if2 .taken) ∙ sym (c .before .before .before .before .before .before .octets .inv .3)
 
 returns-3 : tie.Need-returns-3 Inv-octets μ-octets
 returns-3 c = too-large _ _ _ (c .before .if3 .left) (c .if4 .taken) ∙ ends _ _ _ _ (omega arith) _ (c .before .before .before .double .ensures .0) (omega arith) (c .before .before .if2 .taken) ∙ sym (c .before .before .before .before .before .before .before .octets .inv .3)
 
-add-t12 : tie.Need-add-t12 Inv-octets μ-octets
-add-t12 c = search needs
-
 returns-4 : tie.Need-returns-4 Inv-octets μ-octets
 returns-4 c = in-range _ _ _ (c .before .if3 .left) (c .if4 .left) ∙ ends _ _ _ _ (omega arith) _ (c .before .before .before .double .ensures .0) (omega arith) (c .before .before .if2 .taken) ∙ sym (c .before .before .before .before .before .before .before .octets .inv .3)
 
-mul-number-2 : tie.Need-mul-number-2 Inv-octets μ-octets
-mul-number-2 c = search needs
-
-add-number-2 : tie.Need-add-number-2 Inv-octets μ-octets
-add-number-2 c = search needs
-
 returns-5 : tie.Need-returns-5 Inv-octets μ-octets
 returns-5 c = leads _ _ _ _ (omega arith) _ (c .before .before .double .ensures .0) (omega arith) (c .before .if2 .left) (c .if5 .taken) ∙ sym (c .before .before .before .before .before .before .octets .inv .3)
-
-add-at : tie.Need-add-at Inv-octets μ-octets
-add-at c = search needs
-
-octets-less : tie.Need-octets-less Inv-octets μ-octets
-octets-less c = search needs
 
 octets-again : tie.Need-octets-again Inv-octets μ-octets
 octets-again c = (search needs, search needs, omega arith, c .before .before .before .before .before .before .octets .inv .3 ∙ sym (goes-on _ _ _ _ (omega arith) _ (c .before .before .double .ensures .0) (omega arith) (c .before .if2 .left) (c .if5 .left)))
@@ -77,18 +50,13 @@ scan-spec =
     μ-octets
     octets-holds
     returns
-    shared-slice-read-double
-    double-requires
-    mul-number
-    add-number
+    (λ c. search needs) (λ c κs. search needs) (λ c. search needs) (λ c. search needs)
     returns-2
     returns-3
-    add-t12
+    (λ c. search needs)
     returns-4
-    mul-number-2
-    add-number-2
+    (λ c. search needs) (λ c. search needs)
     returns-5
-    add-at
-    octets-less
+    (λ c. search needs) (λ c. search needs)
     octets-again
     returns-6)

@@ -9,12 +9,6 @@ use Rattle.lines.proofs.Fronts as fronts
 use Rattle.lines.proofs.number_before.Statement.{statement}
 use Rattle.lines.proofs.number_before.Tie as tie
 
-sub-last : tie.Need-sub-last
-sub-last c = search needs
-
-slice-write-text : tie.Need-slice-write-text
-slice-write-text c = search needs
-
 digits-before-requires : tie.Need-digits-before-requires
 digits-before-requires c κs = (omega arith, simp length-set (omega arith))
 
@@ -27,4 +21,4 @@ returns c = (fronts.then (fronts.one _ _ _ (omega arith) (omega arith)) (c .befo
 
 pub number-before-spec : {M : Type 1} → statement M
 number-before-spec =
-    tie.close (tie.spec sub-last slice-write-text digits-before-requires same-length returns)
+    tie.close (tie.spec (λ c. search needs) (λ c. search needs) digits-before-requires same-length returns)

@@ -6,9 +6,6 @@ use Rattle.component.specs.Layout.{operationPlace}
 use Rattle.operation.proofs.operation_place.Statement.{statement}
 use Rattle.operation.proofs.operation_place.Tie as tie
 
-cast-result : tie.Need-cast-result
-cast-result c = search needs
-
 returns : tie.Need-returns
 unfolding operationPlace
 returns c = simp (eq-eqb _ 0xE9 (c .before .if1 .taken))
@@ -18,4 +15,4 @@ unfolding operationPlace
 returns-2 c = simp (ne-eqb _ 0xE9 (c .if1 .left))
 
 pub operation-place-spec : {M : Type 1} → statement M
-operation-place-spec = tie.close (tie.spec cast-result returns returns-2)
+operation-place-spec = tie.close (tie.spec (λ c. search needs) returns returns-2)

@@ -11,21 +11,6 @@ use Rattle.component.proofs.Inside.{inside}
 use Rattle.component.proofs.reading.parameter_at.Statement.{statement}
 use Rattle.component.proofs.reading.parameter_at.Tie as tie
 
-sub-read-identifier : tie.Need-sub-read-identifier
-sub-read-identifier c = search needs
-
-part-read-identifier-start : tie.Need-part-read-identifier-start
-part-read-identifier-start c = search needs
-
-part-read-identifier-end : tie.Need-part-read-identifier-end
-part-read-identifier-end c = search needs
-
-read-identifier-requires : tie.Need-read-identifier-requires
-read-identifier-requires c κs = search needs
-
-enum-known-number : tie.Need-enum-known-number
-enum-known-number c = search needs
-
 add-contents-at : tie.Need-add-contents-at
 add-contents-at c =
     let a = c .before .before .before .before .before .before .args in
@@ -38,26 +23,8 @@ contents-at-requires c κs =
     let h = Identifier.inside _ (octets-between (a .s .now) (λ i. c .before .before .before .before .before .shared-slice-known .given i .fits) (a .at) (a .end)) (sym (c .before .before .before .read-identifier .ensures) ∙ c .before .number .given .1) in
     omega (arith, length-between (a .s .now) (a .at) {b = a .end} (omega arith))
 
-enum-known-start : tie.Need-enum-known-start
-enum-known-start c = search needs
-
 sub-t20 : tie.Need-sub-t20
 sub-t20 c = omega (arith, inside (c .before .before .before .before .before .before .before .before .before .before .args .s .now) (λ i. c .before .before .before .before .before .before .before .before .before .shared-slice-known .given i .fits) (c .before .before .before .before .before .before .before .before .before .before .args .at) (sym (c .before .before .before .contents-at .ensures) ∙ ap spanIn (c .before .start .given .1)))
-
-enum-known-number-2 : tie.Need-enum-known-number-2
-enum-known-number-2 c = search needs
-
-enum-told : tie.Need-enum-told
-enum-told c = search needs
-
-cast-t21 : tie.Need-cast-t21
-cast-t21 c = search needs
-
-enum-told-2 : tie.Need-enum-told-2
-enum-told-2 c = search needs
-
-cast-t22 : tie.Need-cast-t22
-cast-t22 c = search needs
 
 returns : tie.Need-returns
 unfolding parameterAt parameter
@@ -79,20 +46,12 @@ pub parameter-at-spec : {M : Type 1} → statement M
 parameter-at-spec =
     tie.close
     (tie.spec
-    sub-read-identifier
-    part-read-identifier-start
-    part-read-identifier-end
-    read-identifier-requires
-    enum-known-number
+    (λ c. search needs) (λ c. search needs) (λ c. search needs) (λ c κs. search needs) (λ c. search needs)
     add-contents-at
     contents-at-requires
-    enum-known-start
+    (λ c. search needs)
     sub-t20
-    enum-known-number-2
-    enum-told
-    cast-t21
-    enum-told-2
-    cast-t22
+    (λ c. search needs) (λ c. search needs) (λ c. search needs) (λ c. search needs) (λ c. search needs)
     returns
     returns-2
     returns-3

@@ -12,19 +12,13 @@ returns : tie.Need-returns
 unfolding parameterFrom
 returns c = simp (lt-leb _ 4096 (c .if1 .taken))
 
-cast-t6 : tie.Need-cast-t6
-cast-t6 c = search needs
-
 returns-2 : tie.Need-returns-2
 unfolding parameterFrom
 returns-2 c = simp (le-leb _ 4096 (c .before .if1 .left), le-ltb _ _ (c .if2 .taken))
-
-parameter-at-requires : tie.Need-parameter-at-requires
-parameter-at-requires c κs = search needs
 
 returns-3 : tie.Need-returns-3
 returns-3 c = c .parameter-at .ensures ∙ sym (parameter-within _ _ (c .before .before .if1 .left) (c .before .if2 .left))
 
 pub parameter-from-spec : {M : Type 1} → statement M
 parameter-from-spec =
-    tie.close (tie.spec returns cast-t6 returns-2 parameter-at-requires returns-3)
+    tie.close (tie.spec returns (λ c. search needs) returns-2 (λ c κs. search needs) returns-3)

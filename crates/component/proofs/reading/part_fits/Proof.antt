@@ -9,9 +9,6 @@ use Rattle.component.proofs.reading.part_fits.Tie as tie
 returns : tie.Need-returns
 returns c = beyond _ _ _ (omega arith)
 
-sub-if2 : tie.Need-sub-if2
-sub-if2 c = search needs
-
 returns-2 : tie.Need-returns-2
 returns-2 c = beyond _ _ _ (omega arith)
 
@@ -19,4 +16,4 @@ returns-3 : tie.Need-returns-3
 returns-3 c = within _ _ _ (omega arith)
 
 pub part-fits-spec : {M : Type 1} → statement M
-part-fits-spec = tie.close (tie.spec returns sub-if2 returns-2 returns-3)
+part-fits-spec = tie.close (tie.spec returns (λ c. search needs) returns-2 returns-3)

@@ -10,21 +10,12 @@ use Rattle.component.specs.Told.{spanIn}
 use Rattle.component.proofs.reading.set_at.Statement.{statement}
 use Rattle.component.proofs.reading.set_at.Tie as tie
 
-wanted-at-requires : tie.Need-wanted-at-requires
-wanted-at-requires c κs = search needs
-
-enum-known-start : tie.Need-enum-known-start
-enum-known-start c = search needs
-
 returns : tie.Need-returns
 unfolding setAt
 returns c = simp (sym (c .before .before .before .before .wanted-at .ensures) ∙ ap spanIn (c .before .before .start .given .1), eq-eqb _ _ (c .if1 .taken))
 
 cast-t11 : tie.Need-cast-t11
 cast-t11 c = omega (arith, wanted-inside (c .before .before .before .before .before .before .args .s .now) (λ i. c .before .before .before .before .before .shared-slice-known .given i .fits) 0xF2 8 (sym (c .before .before .before .before .wanted-at .ensures) ∙ ap spanIn (c .before .before .start .given .1)))
-
-enum-known-number : tie.Need-enum-known-number
-enum-known-number c = search needs
 
 returns-2 : tie.Need-returns-2
 unfolding setAt
@@ -38,10 +29,9 @@ pub set-at-spec : {M : Type 1} → statement M
 set-at-spec =
     tie.close
     (tie.spec
-    wanted-at-requires
-    enum-known-start
+    (λ c κs. search needs) (λ c. search needs)
     returns
     cast-t11
-    enum-known-number
+    (λ c. search needs)
     returns-2
     returns-3)

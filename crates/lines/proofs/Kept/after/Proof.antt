@@ -6,15 +6,9 @@ use borrow.Author.Needs.{needs}
 use Rattle.lines.proofs.Kept.after.Statement.{statement}
 use Rattle.lines.proofs.Kept.after.Tie as tie
 
-wrapping-add-u64-requires : tie.Need-wrapping-add-u64-requires
-wrapping-add-u64-requires c κs = search needs
-
 returns : tie.Need-returns
 unfolding after
 returns c = simp (eq-eqb _ _ (c .before .if1 .taken), c .wrapping-add-u64 .ensures)
-
-shared-slice-read-self : tie.Need-shared-slice-read-self
-shared-slice-read-self c = search needs
 
 returns-2 : tie.Need-returns-2
 unfolding after
@@ -32,9 +26,9 @@ pub after-spec : {M : Type 1} → statement M
 after-spec =
     tie.close
     (tie.spec
-    wrapping-add-u64-requires
+    (λ c κs. search needs)
     returns
-    shared-slice-read-self
+    (λ c. search needs)
     returns-2
     returns-3
     returns-4)

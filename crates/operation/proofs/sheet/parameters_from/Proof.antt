@@ -22,15 +22,6 @@ abbrev μ-parameters : tie.MeasureT-parameters
 parameters-holds : tie.Need-parameters-holds Inv-parameters μ-parameters
 parameters-holds c = (search needs, search needs, search needs, begins _ _ _)
 
-cast-t16 : tie.Need-cast-t16 Inv-parameters μ-parameters
-cast-t16 c = search needs
-
-parameter-from-requires : tie.Need-parameter-from-requires Inv-parameters μ-parameters
-parameter-from-requires c κs = search needs
-
-enum-known-number : tie.Need-enum-known-number Inv-parameters μ-parameters
-enum-known-number c = search needs
-
 show-requires : tie.Need-show-requires Inv-parameters μ-parameters
 show-requires c κs =
     let a = c .before .before .before .before .before .before .before .before .before .before .args in
@@ -41,12 +32,6 @@ add-at c =
     let a = c .before .before .before .before .before .before .before .before .before .before .before .before .before .args in
     omega (arith, parameter-placed (a .octets .now) (λ i. c .before .before .before .before .before .before .before .before .before .before .before .before .shared-slice-known .given i .fits) (sym (c .before .before .before .before .before .before .before .parameter-from .ensures) ∙ ap (entryIn (c .before .before .before .before .before .before .before .before .before .before .parameters .at)) (c .before .before .before .before .before .number .given .1)))
 
-add-count : tie.Need-add-count Inv-parameters μ-parameters
-add-count c = search needs
-
-parameters-less : tie.Need-parameters-less Inv-parameters μ-parameters
-parameters-less c = search needs
-
 parameters-again : tie.Need-parameters-again Inv-parameters μ-parameters
 parameters-again c =
     let a = c .before .before .before .before .before .before .before .before .before .before .before .before .before .args in
@@ -55,25 +40,13 @@ parameters-again c =
     let placed = parameter-placed (a .octets .now) (λ i. c .before .before .before .before .before .before .before .before .before .before .before .before .shared-slice-known .given i .fits) read in
     (omega arith, omega arith, c .before .before .show .kept .0 ∙ l .inv .2, goes-on _ _ _ (l .inv .3) (c .before .before .before .before .before .before .before .before .before .if1 .left) (c .before .before .before .before .before .before .before .before .if2 .left) (omega arith) read (omega arith) (c .before .before .show .ensures))
 
-enum-known-number-2 : tie.Need-enum-known-number-2 Inv-parameters μ-parameters
-enum-known-number-2 c = search needs
-
-same-length : tie.Need-same-length Inv-parameters μ-parameters
-same-length c = search needs
-
 returns : tie.Need-returns Inv-parameters μ-parameters
 returns c = ends _ _ _ (c .before .parameters .inv .3) (c .if1 .taken)
-
-same-length-2 : tie.Need-same-length-2 Inv-parameters μ-parameters
-same-length-2 c = search needs
 
 returns-2 : tie.Need-returns-2 Inv-parameters μ-parameters
 returns-2 c =
     let l = c .before .before .parameters in
     full _ _ _ (l .inv .3) (c .before .if1 .left) (omega arith)
-
-same-length-3 : tie.Need-same-length-3 Inv-parameters μ-parameters
-same-length-3 c = search needs
 
 returns-3 : tie.Need-returns-3 Inv-parameters μ-parameters
 returns-3 c =
@@ -87,18 +60,14 @@ parameters-from-spec =
     Inv-parameters
     μ-parameters
     parameters-holds
-    cast-t16
-    parameter-from-requires
-    enum-known-number
+    (λ c. search needs) (λ c κs. search needs) (λ c. search needs)
     show-requires
     add-at
-    add-count
-    parameters-less
+    (λ c. search needs) (λ c. search needs)
     parameters-again
-    enum-known-number-2
-    same-length
+    (λ c. search needs) (λ c. search needs)
     returns
-    same-length-2
+    (λ c. search needs)
     returns-2
-    same-length-3
+    (λ c. search needs)
     returns-3)
