@@ -1,8 +1,8 @@
 /*
  * The header as a drafter uses it, in C or C++: chart A, an error and a reject
- * read, taken apart and written again, chart A with padded lengths too; refusals
- * of each kind of call, a table too short among them; and the name of every
- * error octet.
+ * read, taken apart and written again, chart A with padded lengths too, and
+ * InterSystemPage with one and with all of its group; refusals of each kind of
+ * call, a table too short among them; and the name of every error octet.
  * Status 0 where all is as it must be.
  */
 #include "roadquill.h"
@@ -32,6 +32,18 @@ static const uint8_t reject[] = {
 static const uint8_t two_ids[] = {
     0xE9, 0x18, 0xCF, 0x02, 0x05, 0x06, 0xD1, 0x02, 0x09, 0x25, 0xF2, 0x0E, 0x81, 0x00, 0x86, 0x00,
     0x82, 0x00, 0x9F, 0x81, 0x72, 0x00, 0x84, 0x00, 0x88, 0x00
+};
+/* InterSystemPage by NetworkTMSI alone, by all of the group, and by none. */
+static const uint8_t by_one[] = {
+    0xE9, 0x19, 0xCF, 0x01, 0x05, 0xD1, 0x02, 0x09, 0x20, 0xF2, 0x10, 0x81, 0x00, 0x89, 0x04, 0x82,
+    0x1A, 0x2B, 0x3C, 0x9F, 0x81, 0x69, 0x04, 0x12, 0x34, 0x56, 0x78
+};
+static const uint8_t by_three[] = {
+    0xE9, 0x17, 0xCF, 0x01, 0x05, 0xD1, 0x02, 0x09, 0x20, 0xF2, 0x0E, 0x81, 0x00, 0x89, 0x00, 0x9F,
+    0x81, 0x69, 0x00, 0x88, 0x00, 0x9F, 0x81, 0x72, 0x00
+};
+static const uint8_t by_none[] = {
+    0xE9, 0x0D, 0xCF, 0x01, 0x05, 0xD1, 0x02, 0x09, 0x20, 0xF2, 0x04, 0x81, 0x00, 0x89, 0x00
 };
 
 /* Table 6 of N.S0010, from octet 81 on; it reserves all others. */
@@ -108,6 +120,8 @@ static void trips(void)
     const struct shown of_error = { ROADQUILL_ERROR, 1, 5, 0, 0x81, 0, 0, 0, 0 };
     const struct shown of_reject = { ROADQUILL_REJECT, 0, 0, 0, 1, 2, 2, 0, 2 };
     const struct shown of_two_ids = { ROADQUILL_INVOKE, 2, 5, 6, 37, 0, 6, 4, 2 };
+    const struct shown of_one = { ROADQUILL_INVOKE, 1, 5, 0, 32, 0, 3, 3, 0 };
+    const struct shown of_three = { ROADQUILL_INVOKE, 1, 5, 0, 32, 0, 5, 5, 0 };
 
     same_trip(chart, sizeof chart, 0, of_chart);
     trip(padded, sizeof padded, 0, of_chart, chart, sizeof chart);
@@ -115,6 +129,8 @@ static void trips(void)
     same_trip(error, sizeof error, 4, of_error);
     same_trip(reject, sizeof reject, 4, of_reject);
     same_trip(two_ids, sizeof two_ids, 0, of_two_ids);
+    same_trip(by_one, sizeof by_one, 0, of_one);
+    same_trip(by_three, sizeof by_three, 0, of_three);
 }
 
 static void entries(void)
@@ -154,6 +170,9 @@ static void refused_readings(void)
     other[5] = 0xD5;
     refused("the answer to an error with a problem",
             roadquill_read(other, sizeof other, 0, table, ROADQUILL_NUMBERS), ROADQUILL_PROBLEM, 5);
+    refused("the answer to a page with none of its group",
+            roadquill_read(by_none, sizeof by_none, 0, table, ROADQUILL_NUMBERS),
+            ROADQUILL_MISSING, 8);
 }
 
 static void refused_writings(void)
@@ -167,6 +186,10 @@ static void refused_writings(void)
     refused("the answer to a reject with two ID octets",
             roadquill_write(ROADQUILL_REJECT, 2, 5, 6, 1, 1, 0, table, 0, chart, 0, output,
                             sizeof output), ROADQUILL_ID, 0);
+    roadquill_read(by_three, sizeof by_three, 0, table, ROADQUILL_NUMBERS);
+    refused("the writer's answer to a page with none of its group",
+            roadquill_write(ROADQUILL_INVOKE, 1, 5, 0, 32, 0, 2, table, ROADQUILL_NUMBERS, by_three,
+                            sizeof by_three, output, sizeof output), ROADQUILL_MISSING, 8);
     refused("the writer's answer to no type",
             roadquill_write(0xED, 1, 5, 0, 1, 1, 0, table, 0, chart, 0, output, sizeof output),
             ROADQUILL_TYPE, 0);

@@ -71,9 +71,11 @@ enum {
                                    row, and 11 to 14 are not asked of them */
     ROADQUILL_AGAIN = 12,       /* a named parameter other than Digits occurs again; place of the earliest
                                    such second, writer its entry */
-    ROADQUILL_MISSING = 13,     /* a mandatory parameter or choice is missing; first missing number in row
-                                   order, a choice gives its first */
-    ROADQUILL_BOTH = 14,        /* both members of a choice occur; place of the later, writer its entry */
+    ROADQUILL_MISSING = 13,     /* a mandatory parameter or choice is missing, or all members of a group;
+                                   first missing number in row order, a group behind the others; a choice
+                                   and a group give their first */
+    ROADQUILL_BOTH = 14,        /* both members of a choice occur (those of a group may); place of the later,
+                                   writer its entry */
     ROADQUILL_TOO_LONG = 15,    /* writer: component would pass 4,096 octets; octets it would need */
     ROADQUILL_ENTRY = 16,       /* writer: number over 16,383, form over 1, or contents outside the source;
                                    the lowest such entry */

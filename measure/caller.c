@@ -184,6 +184,15 @@ static void make(const char *name)
         };
         memcpy(made, chart, sizeof chart);
         made_count = sizeof chart;
+    } else if (strcmp(name, "page") == 0) {
+        /* a row with a group: InterSystemPage INVOKE with BillingID, ESN, IMSI and MSCID, and no MIN */
+        static const uint8_t chart[] = {
+            0xE9, 0x29, 0xCF, 0x01, 0x05, 0xD1, 0x02, 0x09, 0x20, 0xF2, 0x20,
+            0x81, 0x07, 0x00, 0x11, 0x05, 0x00, 0x00, 0x2A, 0x01, 0x89, 0x04, 0x01, 0x02, 0x03, 0x04,
+            0x9F, 0x81, 0x72, 0x08, 0x21, 0x43, 0x65, 0x87, 0x09, 0x21, 0x43, 0xF5, 0x95, 0x03, 0x00, 0x11, 0x05
+        };
+        memcpy(made, chart, sizeof chart);
+        made_count = sizeof chart;
     } else if (strcmp(name, "272-octets") == 0) {
         count = numbers_of(numbers, back, 6, 20, 0);
         component(ROADQUILL_INVOKE, 4, numbers, count, 0, 272);

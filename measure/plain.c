@@ -41,12 +41,14 @@ static const struct kind kinds[] = {  /* from INVOKE on */
 };
 
 /* A row: `named` holds first the parameters that must occur, in order, then
- * the others. Of a choice the first member stands among those that must
- * occur, and the second may occur instead of it. */
+ * the members of its group, of which at least one must occur, then the others.
+ * Of a choice the first member stands among those that must occur, and the
+ * second may occur instead of it. */
 struct row {
     uint8_t type;
     uint8_t specifier;
     uint8_t must_count;
+    uint8_t group_count;  /* 0: no group */
     uint8_t named_count;
     uint16_t named[8];
     uint16_t choice_first;  /* 0: no choice */
@@ -54,18 +56,18 @@ struct row {
 };
 
 static const struct row rows[] = {
-    { INVOKE, 4, 5, 6, { 5, 6, 8, 2, 3, 1 }, 0, 0 },
-    { RESULT, 4, 1, 1, { 5 }, 0, 0 },
-    { INVOKE, 13, 5, 8, { 9, 8, 21, 17, 22, 242, 32, 123 }, 8, 242 },
-    { RESULT, 13, 1, 1, { 22 }, 0, 0 },
-    { RESULT, 14, 0, 0, { 0 }, 0, 0 },
-    { INVOKE, 15, 4, 6, { 1, 4, 21, 22, 32, 123 }, 0, 0 },
-    { RESULT, 26, 0, 0, { 0 }, 0, 0 },
-    { INVOKE, 32, 3, 7, { 1, 9, 8, 21, 22, 32, 242 }, 0, 0 },
-    { INVOKE, 37, 3, 4, { 1, 6, 2, 242 }, 0, 0 },
-    { RESULT, 64, 0, 1, { 4 }, 0, 0 },
-    { INVOKE, 101, 2, 5, { 105, 116, 8, 9, 242 }, 0, 0 },
-    { RESULT, 101, 0, 2, { 105, 153 }, 0, 0 },
+    { INVOKE, 4, 5, 0, 6, { 5, 6, 8, 2, 3, 1 }, 0, 0 },
+    { RESULT, 4, 1, 0, 1, { 5 }, 0, 0 },
+    { INVOKE, 13, 5, 0, 8, { 9, 8, 21, 17, 22, 242, 32, 123 }, 8, 242 },
+    { RESULT, 13, 1, 0, 1, { 22 }, 0, 0 },
+    { RESULT, 14, 0, 0, 0, { 0 }, 0, 0 },
+    { INVOKE, 15, 4, 0, 6, { 1, 4, 21, 22, 32, 123 }, 0, 0 },
+    { RESULT, 26, 0, 0, 0, { 0 }, 0, 0 },
+    { INVOKE, 32, 2, 3, 8, { 1, 9, 8, 242, 233, 21, 22, 32 }, 0, 0 },
+    { INVOKE, 37, 3, 0, 4, { 1, 6, 2, 242 }, 0, 0 },
+    { RESULT, 64, 0, 0, 1, { 4 }, 0, 0 },
+    { INVOKE, 101, 2, 3, 6, { 105, 116, 8, 242, 233, 9 }, 0, 0 },
+    { RESULT, 101, 0, 0, 2, { 105, 153 }, 0, 0 },
 };
 
 struct parameter {
@@ -280,6 +282,17 @@ static int has_row(uint8_t type)
     return type == INVOKE || type == RESULT;
 }
 
+/* Whether one of the group was seen, or the row has none. */
+static int has_group(const struct row *row, const uint16_t *seen)
+{
+    int i;
+
+    for (i = 0; i < row->group_count; i++)
+        if (seen[row->must_count + i] != 0)
+            return 1;
+    return row->group_count == 0;
+}
+
 static int check_row(struct reading *r)
 {
     const struct row *row = find_row(r->kind->type, r->code[0]);
@@ -311,6 +324,8 @@ static int check_row(struct reading *r)
             continue;
         return refuse(r, 13, row->named[i]);
     }
+    if (!has_group(row, seen))
+        return refuse(r, 13, row->named[row->must_count]);
     if (choice_first != 0 && choice_second != 0)
         return refuse(r, 14, choice_first > choice_second ? choice_first : choice_second);
     return 1;

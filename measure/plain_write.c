@@ -18,7 +18,8 @@
 enum { INVOKE = 0xE9, RESULT = 0xEA, ERROR = 0xEB, REJECT = 0xEC };
 
 /* The rows as text: type, specifier, then the numbers. A number with `!` must
- * occur, `a/b!` is a choice. */
+ * occur, `a/b!` is a choice, exactly one of which must, and `a+b+c!` a group,
+ * at least one of which must. */
 static const struct {
     uint8_t type;
     uint8_t specifier;
@@ -31,10 +32,10 @@ static const struct {
     { RESULT, 14, "" },
     { INVOKE, 15, "1! 4! 21! 22! 32 123" },
     { RESULT, 26, "" },
-    { INVOKE, 32, "1! 9! 8! 21 22 32 242" },
+    { INVOKE, 32, "1! 9! 8+242+233! 21 22 32" },
     { INVOKE, 37, "1! 6! 2! 242" },
     { RESULT, 64, "4" },
-    { INVOKE, 101, "105! 116! 8 9 242" },
+    { INVOKE, 101, "105! 116! 8+242+233! 9" },
     { RESULT, 101, "105 153" },
 };
 
@@ -55,19 +56,29 @@ static unsigned take_number(const char **text)
     return number;
 }
 
+#define MOST_MEMBERS 3
+
+/* An item of a row: one number, or the members that `sign` stands between. */
+struct item {
+    unsigned members[MOST_MEMBERS];
+    size_t count;
+    char sign;
+    int must;
+};
+
 /* Takes one item of a row; false at its end. */
-static int take_item(const char **text, unsigned *first, unsigned *second, int *must)
+static int take_item(const char **text, struct item *item)
 {
     if (**text == 0)
         return 0;
-    *first = take_number(text);
-    *second = 0;
-    if (**text == '/') {
-        (*text)++;
-        *second = take_number(text);
+    item->sign = 0;
+    item->members[0] = take_number(text);
+    for (item->count = 1; **text == '/' || **text == '+'; item->count++) {
+        item->sign = *(*text)++;
+        item->members[item->count] = take_number(text);
     }
-    *must = **text == '!';
-    *text += *must;
+    item->must = **text == '!';
+    *text += item->must;
     if (**text == ' ')
         (*text)++;
     return 1;
@@ -75,12 +86,12 @@ static int take_item(const char **text, unsigned *first, unsigned *second, int *
 
 static int is_named(const char *row, unsigned number)
 {
-    unsigned first, second;
-    int must;
+    struct item item;
 
-    while (take_item(&row, &first, &second, &must))
-        if (number == first || (second != 0 && number == second))
-            return 1;
+    while (take_item(&row, &item))
+        for (size_t i = 0; i < item.count; i++)
+            if (number == item.members[i])
+                return 1;
     return 0;
 }
 
@@ -94,10 +105,18 @@ static size_t find_entry(const uint16_t *table, size_t entries, unsigned number)
     return i;
 }
 
+/* Whether a member of this item has an entry. */
+static int occurs(const struct item *item, const uint16_t *table, size_t entries)
+{
+    for (size_t i = 0; i < item->count; i++)
+        if (find_entry(table, entries, item->members[i]) < entries)
+            return 1;
+    return 0;
+}
+
 static uint64_t check_row(const char *row, const uint16_t *table, size_t entries)
 {
-    unsigned first, second;
-    int must;
+    struct item item;
     const char *text;
 
     if (row == NULL)
@@ -109,15 +128,13 @@ static uint64_t check_row(const char *row, const uint16_t *table, size_t entries
             && find_entry(table, i, number) < i)
             return ANSWER(12, i);
     }
-    for (text = row; take_item(&text, &first, &second, &must);) {
-        if (must && find_entry(table, entries, first) == entries
-            && (second == 0 || find_entry(table, entries, second) == entries))
-            return ANSWER(13, first);
-    }
-    for (text = row; take_item(&text, &first, &second, &must);) {
-        if (second != 0) {
-            size_t one = find_entry(table, entries, first);
-            size_t other = find_entry(table, entries, second);
+    for (text = row; take_item(&text, &item);)
+        if (item.must && !occurs(&item, table, entries))
+            return ANSWER(13, item.members[0]);
+    for (text = row; take_item(&text, &item);) {
+        if (item.sign == '/') {
+            size_t one = find_entry(table, entries, item.members[0]);
+            size_t other = find_entry(table, entries, item.members[1]);
 
             if (one < entries && other < entries)
                 return ANSWER(14, one > other ? one : other);

@@ -23,29 +23,34 @@
 #define DIGITS 4
 
 /* A row: a bit for each number that it names, 64 to a word; those that must
- * occur, in order, of a choice the first; and the choice, 0 where there is none. */
+ * occur, in order, of a choice the first; the choice, 0 where there is none;
+ * and the group, its first member and a bit for each, 0 where there is none. */
 struct row {
     uint64_t names[4];
     uint8_t must_count;
     uint8_t must[5];
     uint8_t one, other;
+    uint8_t first;
+    uint64_t group[4];
 };
 
 #define BIT(number) ((uint64_t)1 << (number) % 64)
 
 static const struct row rows[] = {
-    { { BIT(5) | BIT(6) | BIT(8) | BIT(2) | BIT(3) | BIT(1) }, 5, { 5, 6, 8, 2, 3 }, 0, 0 },
-    { { BIT(5) }, 1, { 5 }, 0, 0 },
+    { { BIT(5) | BIT(6) | BIT(8) | BIT(2) | BIT(3) | BIT(1) }, 5, { 5, 6, 8, 2, 3 }, 0, 0, 0, { 0 } },
+    { { BIT(5) }, 1, { 5 }, 0, 0, 0, { 0 } },
     { { BIT(9) | BIT(8) | BIT(21) | BIT(17) | BIT(22) | BIT(32), BIT(123), 0, BIT(242) },
-      5, { 9, 8, 21, 17, 22 }, 8, 242 },
-    { { BIT(22) }, 1, { 22 }, 0, 0 },
-    { { 0 }, 0, { 0 }, 0, 0 },
-    { { BIT(1) | BIT(4) | BIT(21) | BIT(22) | BIT(32), BIT(123) }, 4, { 1, 4, 21, 22 }, 0, 0 },
-    { { BIT(1) | BIT(9) | BIT(8) | BIT(21) | BIT(22) | BIT(32), 0, 0, BIT(242) }, 3, { 1, 9, 8 }, 0, 0 },
-    { { BIT(1) | BIT(6) | BIT(2), 0, 0, BIT(242) }, 3, { 1, 6, 2 }, 0, 0 },
-    { { BIT(4) }, 0, { 0 }, 0, 0 },
-    { { BIT(8) | BIT(9), BIT(105) | BIT(116), 0, BIT(242) }, 2, { 105, 116 }, 0, 0 },
-    { { 0, BIT(105), BIT(153) }, 0, { 0 }, 0, 0 },
+      5, { 9, 8, 21, 17, 22 }, 8, 242, 0, { 0 } },
+    { { BIT(22) }, 1, { 22 }, 0, 0, 0, { 0 } },
+    { { 0 }, 0, { 0 }, 0, 0, 0, { 0 } },
+    { { BIT(1) | BIT(4) | BIT(21) | BIT(22) | BIT(32), BIT(123) }, 4, { 1, 4, 21, 22 }, 0, 0, 0, { 0 } },
+    { { BIT(1) | BIT(9) | BIT(8) | BIT(21) | BIT(22) | BIT(32), 0, 0, BIT(242) | BIT(233) },
+      2, { 1, 9 }, 0, 0, 8, { BIT(8), 0, 0, BIT(242) | BIT(233) } },
+    { { BIT(1) | BIT(6) | BIT(2), 0, 0, BIT(242) }, 3, { 1, 6, 2 }, 0, 0, 0, { 0 } },
+    { { BIT(4) }, 0, { 0 }, 0, 0, 0, { 0 } },
+    { { BIT(8) | BIT(9), BIT(105) | BIT(116), 0, BIT(242) | BIT(233) },
+      2, { 105, 116 }, 0, 0, 8, { BIT(8), 0, 0, BIT(242) | BIT(233) } },
+    { { 0, BIT(105), BIT(153) }, 0, { 0 }, 0, 0, 0, { 0 } },
 };
 
 /* One more than the place of its row: 0 where there is none. The empty row also serves there, and for an
@@ -121,6 +126,12 @@ static inline uint64_t element_at(const uint8_t *octets, size_t *at, size_t end,
     if (*at == 0)
         return refusal(4, place + 1);
     return *length > end - *at ? refusal(5, place) : 0;
+}
+
+/* Whether a word of the one has a bit of the other's. */
+static int any(const uint64_t *seen, const uint64_t *group)
+{
+    return ((seen[0] & group[0]) | (seen[1] & group[1]) | (seen[2] & group[2]) | (seen[3] & group[3])) != 0;
 }
 
 /* 14: the place of the last entry before `entry` that is one of the choice; both are there. */
@@ -238,6 +249,8 @@ uint64_t tuned_read(const uint8_t *component, size_t octets, uint8_t specifier,
         if (!(seen[number / 64] & BIT(number)) && !(number == row->one && seen[row->other / 64] & BIT(row->other)))
             return refusal(13, number);
     }
+    if (row->first != 0 && !any(seen, row->group))
+        return refusal(13, row->first);
     if (row->one != 0 && seen[row->one / 64] & BIT(row->one) && seen[row->other / 64] & BIT(row->other))
         return both(entries + ENTRY_NUMBERS * count, row);
     memcpy(table, entries, ENTRY_NUMBERS * count * sizeof *table);

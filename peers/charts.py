@@ -10,6 +10,8 @@ CIRCUIT = bytes.fromhex("86 02 01 07")
 MIN = bytes.fromhex("88 05 21 43 65 87 09")
 CELLS = bytes.fromhex("82 02 00 11 83 02 00 12")
 ESN = bytes.fromhex("89 04 01 02 03 04")
+BILLING = bytes.fromhex("81 07 00 11 05 00 00 2A 01")
+TMSI = bytes.fromhex("9F 81 69 04 01 02 03 04")
 IMSI = bytes.fromhex("9F 81 72 08 21 43 65 87 09 21 43 F5")
 REST = bytes.fromhex("95 03 01 02 03 91 01 01 96 01 01")
 REST_OF_A = CIRCUIT + MIN + CELLS
@@ -18,6 +20,11 @@ REST_OF_A = CIRCUIT + MIN + CELLS
 def back(parameters, head=HEAD, behind=b""):
     """An INVOKE of HandoffBack."""
     return element(bytes([INVOKE]), head + element(b"\xF2", parameters) + behind)
+
+
+def page(members):
+    """An INVOKE of InterSystemPage with these members of its group."""
+    return tcap.component(INVOKE, b"\x05", 32, BILLING + ESN + members)
 
 
 def with_min_as(field, channel):
@@ -40,6 +47,10 @@ CHARTS = [
     ("B, 85 03 .. again at the end", back(THREE + REST_OF_A + THREE), None, 0, 6),
     ("RegistrationNotification INVOKE with MIN and IMSI",
      tcap.component(INVOKE, b"\x05", 13, ESN + MIN + IMSI + REST), None, 0, 6),
+    ("InterSystemPage INVOKE with NetworkTMSI, no MIN, no IMSI", page(TMSI), None, 0, 3),
+    ("InterSystemPage INVOKE with MIN, IMSI and NetworkTMSI", page(MIN + IMSI + TMSI), None, 0, 5),
+    ("InterSystemPage INVOKE with none of the three", page(b""), None, 0, 2),
+    ("the same, and BF 81 69 08 around a NetworkTMSI", page(element(identifier(233, 1), TMSI)), None, 0, 3),
     ("A, length of MIN as 82 00 05", with_min_as(wide_field(2), EMPTY), None, 0, 5),
     ("A, every length as 81 nn", padded(back(EMPTY + REST_OF_A), wide_field(1)), None, 0, 5),
     ("A, every length as 82 00 nn", padded(back(EMPTY + REST_OF_A), wide_field(2)), None, 0, 5),
@@ -121,6 +132,6 @@ assert CHARTS[3][1] == bytes.fromhex(A.replace("E9 1E", "E9 20").replace("F2 15"
 assert FAILURES[0][1] == bytes.fromhex("EB 08 CF 01 05 D4 01 81 F2 00")
 assert FAILURES[21][1] == bytes.fromhex("EC 08 CF 00 D5 02 01 01 F2 00")
 # And chart A with padded lengths, as order 3's switch writes them.
-assert CHARTS[8][1] == bytes.fromhex(
+assert CHARTS[12][1] == bytes.fromhex(
     "E9 82 00 2E CF 82 00 01 05 D1 82 00 02 09 04 F2 82 00 1F 85 82 00 00 86 82 00 02 01 07"
     "88 82 00 05 21 43 65 87 09 82 82 00 02 00 11 83 82 00 02 00 12")

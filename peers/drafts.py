@@ -3,20 +3,20 @@
 import tcap
 from tcap import ERROR, INVOKE, REJECT, RESULT
 
-# Type, specifier, operation, must occur (a tuple is a choice), also named.
+# Type, specifier, operation, must occur (a tuple is a choice), group, also named.
 ROWS = [
-    (INVOKE, 4, "HandoffBack", [5, 6, 8, 2, 3], [1]),
-    (RESULT, 4, "HandoffBack", [5], []),
-    (INVOKE, 13, "RegistrationNotification", [9, (8, 242), 21, 17, 22], [32, 123]),
-    (RESULT, 13, "RegistrationNotification", [22], []),
-    (RESULT, 14, "RegistrationCancellation", [], []),
-    (INVOKE, 15, "LocationRequest", [1, 4, 21, 22], [32, 123]),
-    (RESULT, 26, "FlashRequest", [], []),
-    (INVOKE, 32, "InterSystemPage", [1, 9, 8], [21, 22, 32, 242]),
-    (INVOKE, 37, "HandoffBack2", [1, 6, 2], [242]),
-    (RESULT, 64, "AnalyzedInformation", [], [4]),
-    (INVOKE, 101, "InterSystemSMSPage", [105, 116], [8, 9, 242]),
-    (RESULT, 101, "InterSystemSMSPage", [], [105, 153]),
+    (INVOKE, 4, "HandoffBack", [5, 6, 8, 2, 3], [], [1]),
+    (RESULT, 4, "HandoffBack", [5], [], []),
+    (INVOKE, 13, "RegistrationNotification", [9, (8, 242), 21, 17, 22], [], [32, 123]),
+    (RESULT, 13, "RegistrationNotification", [22], [], []),
+    (RESULT, 14, "RegistrationCancellation", [], [], []),
+    (INVOKE, 15, "LocationRequest", [1, 4, 21, 22], [], [32, 123]),
+    (RESULT, 26, "FlashRequest", [], [], []),
+    (INVOKE, 32, "InterSystemPage", [1, 9], [8, 242, 233], [21, 22, 32]),
+    (INVOKE, 37, "HandoffBack2", [1, 6, 2], [], [242]),
+    (RESULT, 64, "AnalyzedInformation", [], [], [4]),
+    (INVOKE, 101, "InterSystemSMSPage", [105, 116], [8, 242, 233], [9]),
+    (RESULT, 101, "InterSystemSMSPage", [], [], [105, 153]),
 ]
 
 # The dissector's name of each registered number.
@@ -24,7 +24,7 @@ NAMES = {
     1: "billingID", 2: "servingCellID", 3: "targetCellID", 4: "digits", 5: "channelData", 6: "interMSCCircuitID",
     8: "mobileIdentificationNumber", 9: "electronicSerialNumber", 17: "qualificationInformationCode", 21: "mscid",
     22: "systemMyTypeCode", 32: "pc_ssn", 105: "sms_BearerData", 116: "sms_TeleserviceIdentifier",
-    123: "transactionCapability", 153: "sms_CauseCode", 242: "imsi",
+    123: "transactionCapability", 153: "sms_CauseCode", 233: "networkTMSI", 242: "imsi",
 }
 
 SIZES = {1: 7, 2: 2, 3: 2, 5: 3, 6: 2, 9: 4, 21: 3, 123: 2}
@@ -70,6 +70,9 @@ def contents(dice, number):
     if number == 116:
         # No teleservice that the dissector knows: it would look into SMS_BearerData.
         return bytes([0, 2 + dice.below(254)])
+    if number == 233:
+        # The code, then digits of the zone.
+        return dice.octets(4 + dice.below(5))
     if number == 242:
         return dice.digits(15)
     if number in CODES:
@@ -77,9 +80,27 @@ def contents(dice, number):
     return dice.octets(SIZES[number])
 
 
-def named_numbers(dice, must, also):
+def members(one):
+    return one if isinstance(one, tuple) else (one,)
+
+
+def named(row):
+    """All numbers that the row names."""
+    _, _, _, must, group, also = row
+    return [number for one in must for number in members(one)] + group + also
+
+
+def some(dice, group):
+    """One or several of a group, each such set as likely."""
+    drawn = 1 + dice.below(2 ** len(group) - 1) if group else 0
+    return [one for at, one in enumerate(group) if drawn >> at & 1]
+
+
+def named_numbers(dice, row):
     """Numbers of a component that the row accepts, in any order; Digits may repeat."""
+    _, _, _, must, group, also = row
     numbers = [one if isinstance(one, int) else one[dice.below(2)] for one in must]
+    numbers += some(dice, group)
     numbers += [one for one in also if dice.below(2)]
     if 4 in numbers:
         numbers += [4] * dice.below(3)
@@ -93,9 +114,8 @@ def id_octets(dice, kind):
 
 
 def named_only(dice, row):
-    kind, specifier, _, must, also = row
-    numbers = named_numbers(dice, must, also)
-    parts = [tcap.element(tcap.identifier(one), contents(dice, one)) for one in numbers]
+    kind, specifier, *_ = row
+    parts = [tcap.element(tcap.identifier(one), contents(dice, one)) for one in named_numbers(dice, row)]
     return tcap.component(kind, id_octets(dice, kind), specifier, b"".join(parts))
 
 
@@ -110,10 +130,9 @@ def stranger(dice, registered):
 
 def with_others(dice, row):
     """One to three parameters more that the row does not name: registered ones, or numbers from 1,000 up."""
-    kind, specifier, _, must, also = row
-    named = {one for item in must for one in (item if isinstance(item, tuple) else [item])} | set(also)
-    parts = [tcap.element(tcap.identifier(one), contents(dice, one)) for one in named_numbers(dice, must, also)]
-    parts += [stranger(dice, sorted(set(NAMES) - named)) for _ in range(1 + dice.below(3))]
+    kind, specifier, *_ = row
+    parts = [tcap.element(tcap.identifier(one), contents(dice, one)) for one in named_numbers(dice, row)]
+    parts += [stranger(dice, sorted(set(NAMES) - set(named(row)))) for _ in range(1 + dice.below(3))]
     dice.shuffle(parts)
     return tcap.component(kind, id_octets(dice, kind), specifier, b"".join(parts))
 

@@ -28,14 +28,11 @@ def print_charts(folder, program):
     print_table(["Component", "Roadquill", f"Shown by tshark {dissect.version()}", "What tshark says"], rows)
 
 
-def members(one):
-    return one if isinstance(one, tuple) else (one,)
-
-
 def zero_draft(dice, number, row):
-    """The row's mandatory parameters with `number` first and of no octets."""
-    kind, specifier, _, must, _ = row
-    numbers = [members(one)[0] for one in must if number not in members(one)]
+    """The row's mandatory parameters, of a choice or group the first, with `number` first and of no octets."""
+    kind, specifier, _, must, group, _ = row
+    wanted = [drafts.members(one) for one in must] + [group] * bool(group)
+    numbers = [one[0] for one in wanted if number not in one]
     parts = [tcap.element(tcap.identifier(one), drafts.contents(dice, one)) for one in numbers]
     return tcap.component(kind, b"\x05", specifier, tcap.element(tcap.identifier(number), b"") + b"".join(parts))
 
@@ -54,8 +51,7 @@ def print_zero(folder, program):
     """Each registered parameter with no octets, in the first row that names it."""
     dice, groups = drafts.Dice(SEED), {}
     numbers = sorted(drafts.NAMES)
-    rows = [next(row for row in drafts.ROWS if any(number in members(one) for one in row[3] + row[4]))
-            for number in numbers]
+    rows = [next(row for row in drafts.ROWS if number in drafts.named(row)) for number in numbers]
     cases = [(zero_draft(dice, number, row), row[1]) for number, row in zip(numbers, rows)]
     assert all(answer[0] == 0 for answer in second.listing(program, cases))
     for number, (octets, _), seen in zip(numbers, cases, dissect.dissect(folder, cases)):

@@ -9,19 +9,19 @@ pub use read_cases::{read_case, ReadCase};
 pub use write_cases::{write_case, WriteCase};
 
 use crate::random::Random;
-use crate::rows::{self, Must, Row, DIGITS, ROWS};
+use crate::rows::{self, Identifier, Row, DIGITS, ROWS};
 use crate::types::{self, Code, ComponentType, ERROR, INVOKE, REJECT, TYPES};
 
 /// Numbers at the edges of the three identifier forms, and others around the
 /// register's.
-pub(crate) const NUMBERS: [u16; 28] = [
-    0, 7, 10, 29, 30, 31, 32, 33, 63, 64, 100, 105, 116, 123, 126, 127, 128, 129, 153, 200, 242,
-    255, 256, 4095, 8191, 8192, 16382, 16383,
+pub(crate) const NUMBERS: [u16; 29] = [
+    0, 7, 10, 29, 30, 31, 32, 33, 63, 64, 100, 105, 116, 123, 126, 127, 128, 129, 153, 200, 233,
+    242, 255, 256, 4095, 8191, 8192, 16382, 16383,
 ];
 
 /// The numbers of the register: other rows name them, this one may not.
-pub(crate) const REGISTER: [u16; 17] = [
-    1, 2, 3, 4, 5, 6, 8, 9, 17, 21, 22, 32, 105, 116, 123, 153, 242,
+pub(crate) const REGISTER: [u16; 18] = [
+    1, 2, 3, 4, 5, 6, 8, 9, 17, 21, 22, 32, 105, 116, 123, 153, 233, 242,
 ];
 
 /// A number that no row names, for filling up to a size.
@@ -83,12 +83,22 @@ fn draw_problem(random: &mut Random, row: &Row) -> Code {
     }
 }
 
-/// The row with a choice is the only way to 14, so it is drawn more often.
+/// The row with a choice is the only way to 14, and of a row with a group
+/// there is more to ask, so they are drawn more often.
 fn draw_row(random: &mut Random) -> &'static Row {
-    if random.percent(12) {
-        return rows::find(INVOKE, 13).expect("the row with a choice");
+    let has_group = |row: &&Row| !row.group.is_empty();
+    match random.below(100) {
+        0..=11 => rows::find(INVOKE, 13).expect("the row with a choice"),
+        12..=17 => random.pick(&ROWS.iter().filter(has_group).collect::<Vec<_>>()),
+        _ => &ROWS[random.below(ROWS.len())],
     }
-    &ROWS[random.below(ROWS.len())]
+}
+
+/// The members of the row's choice or of its group; for a row with neither
+/// the numbers that are members in others.
+fn members(row: &Row) -> &[u16] {
+    let mut lines = row.lines();
+    lines.find(|line| line.len() > 1).unwrap_or(&[8, 242, 233])
 }
 
 /// A specifier without a row in this component type, often one of which
@@ -124,13 +134,9 @@ fn draw_other(random: &mut Random, row: &Row) -> Drawn {
         1 => random.pick(&REGISTER),
         _ => random.below(16384) as u16,
     };
-    let identifier = rows::Identifier {
-        number,
-        constructor: false,
-    };
     Drawn {
         number,
-        constructor: row.names(identifier) || random.percent(30),
+        constructor: row.names(Identifier::primitive(number)) || random.percent(30),
         length: draw_length(random),
     }
 }
@@ -159,10 +165,10 @@ fn draw_parameters(random: &mut Random, subject: Subject) -> Vec<Drawn> {
 fn draw_for_row(random: &mut Random, row: &Row) -> Vec<Drawn> {
     let mut list = Vec::new();
     for must in row.must {
-        let number = match *must {
-            Must::One(only) => only,
-            Must::Either(first, second) => random.pick(&[first, second]),
-        };
+        let number = random.pick(must.members());
+        list.push(draw_named(random, number));
+    }
+    for number in draw_some(random, row.group) {
         list.push(draw_named(random, number));
     }
     for number in row.also {
@@ -173,14 +179,21 @@ fn draw_for_row(random: &mut Random, row: &Row) -> Vec<Drawn> {
     while random.percent(35) {
         list.push(draw_other(random, row));
     }
-    let names_digits = row.names(rows::Identifier {
-        number: DIGITS,
-        constructor: false,
-    });
+    let names_digits = row.names(Identifier::primitive(DIGITS));
     while names_digits && random.percent(40) {
         list.push(draw_named(random, DIGITS));
     }
     list
+}
+
+/// One member of a group as often as two, or all.
+fn draw_some(random: &mut Random, group: &[u16]) -> Vec<u16> {
+    let mut members = group.to_vec();
+    random.shuffle(&mut members);
+    if !members.is_empty() {
+        members.truncate(random.between(1, group.len()));
+    }
+    members
 }
 
 /// As the row would often refuse it: some left out, some again.
@@ -191,14 +204,6 @@ fn loosen(random: &mut Random, list: &mut Vec<Drawn>) {
     while !list.is_empty() && random.percent(40) {
         list.push(random.pick(list));
     }
-}
-
-/// Both members of the choice, wherever a row has one.
-fn choice_members(row: &Row) -> Option<(u16, u16)> {
-    row.must.iter().find_map(|must| match *must {
-        Must::Either(first, second) => Some((first, second)),
-        Must::One(_) => None,
-    })
 }
 
 fn draw_id_count(random: &mut Random, kind: &ComponentType) -> usize {

@@ -1,6 +1,7 @@
 //! The operation rows and the questions asked of them (11 to 14).
 
 use crate::types::{INVOKE, RESULT};
+use std::slice;
 
 /// Digits is the only named parameter that may repeat.
 pub const DIGITS: u16 = 4;
@@ -9,7 +10,8 @@ pub const DIGITS: u16 = 4;
 #[derive(Debug)]
 pub enum Must {
     One(u16),
-    Either(u16, u16),
+    /// A choice: one of the two, and not both.
+    Either([u16; 2]),
 }
 
 #[derive(Debug)]
@@ -17,6 +19,9 @@ pub struct Row {
     pub kind: u8,
     pub specifier: u8,
     pub must: &'static [Must],
+    /// At least one must occur and several may; empty where the row asks for
+    /// no such thing.
+    pub group: &'static [u16],
     pub also: &'static [u16],
 }
 
@@ -27,6 +32,7 @@ const fn row(kind: u8, specifier: u8, must: &'static [Must], also: &'static [u16
         kind,
         specifier,
         must,
+        group: &[],
         also,
     }
 }
@@ -38,17 +44,17 @@ pub static ROWS: [Row; 12] = [
     row(
         INVOKE,
         13,
-        &[One(9), Either(8, 242), One(21), One(17), One(22)],
+        &[One(9), Either([8, 242]), One(21), One(17), One(22)],
         &[32, 123],
     ),
     row(RESULT, 13, &[One(22)], &[]),
     row(RESULT, 14, &[], &[]),
     row(INVOKE, 15, &[One(1), One(4), One(21), One(22)], &[32, 123]),
     row(RESULT, 26, &[], &[]),
-    row(INVOKE, 32, &[One(1), One(9), One(8)], &[21, 22, 32, 242]),
+    row(INVOKE, 32, &[One(1), One(9)], &[21, 22, 32]).and_any_of(&[8, 242, 233]),
     row(INVOKE, 37, &[One(1), One(6), One(2)], &[242]),
     row(RESULT, 64, &[], &[4]),
-    row(INVOKE, 101, &[One(105), One(116)], &[8, 9, 242]),
+    row(INVOKE, 101, &[One(105), One(116)], &[9]).and_any_of(&[8, 242, 233]),
     row(RESULT, 101, &[], &[105, 153]),
 ];
 
@@ -93,27 +99,32 @@ pub fn find(kind: u8, specifier: u8) -> Option<&'static Row> {
 
 impl Must {
     /// The numbers of which one must occur, in the paper's order.
-    pub fn members(&self) -> Vec<u16> {
-        match *self {
-            One(only) => vec![only],
-            Either(first, second) => vec![first, second],
-        }
-    }
-
-    fn holds(&self, number: u16) -> bool {
-        match *self {
-            One(only) => only == number,
-            Either(first, second) => first == number || second == number,
+    pub fn members(&self) -> &[u16] {
+        match self {
+            One(only) => slice::from_ref(only),
+            Either(both) => both,
         }
     }
 }
 
 impl Row {
-    /// Named: it stands in either column, each member of a choice included.
+    const fn and_any_of(self, group: &'static [u16]) -> Row {
+        Row { group, ..self }
+    }
+
+    /// What is mandatory, each line the numbers of which one must occur, in
+    /// the order in which 13 asks for them: a group behind all others.
+    pub fn lines(&self) -> impl Iterator<Item = &[u16]> {
+        let group = (!self.group.is_empty()).then_some(self.group);
+        self.must.iter().map(Must::members).chain(group)
+    }
+
+    /// Named: it stands in any column, each member of a choice or of a group
+    /// included.
     pub fn names(&self, identifier: Identifier) -> bool {
-        let number = identifier.number;
-        !identifier.constructor
-            && (self.must.iter().any(|must| must.holds(number)) || self.also.contains(&number))
+        let number = &identifier.number;
+        let mandatory = || self.lines().any(|line| line.contains(number));
+        !identifier.constructor && (mandatory() || self.also.contains(number))
     }
 
     pub fn count_named(&self, list: &[Identifier]) -> usize {
@@ -137,26 +148,18 @@ impl Row {
         Ok(())
     }
 
+    /// A choice and a group give their first member's number.
     fn check_missing(&self, list: &[Identifier]) -> Result<(), RowFault> {
-        for must in self.must {
-            let (first, occurs) = match *must {
-                One(only) => (only, position(list, only).is_some()),
-                Either(first, second) => (
-                    first,
-                    position(list, first).is_some() || position(list, second).is_some(),
-                ),
-            };
-            if !occurs {
-                return Err(RowFault::Missing(first));
-            }
-        }
-        Ok(())
+        let occurs = |number: &u16| position(list, *number).is_some();
+        let missing = self.lines().find(|line| !line.iter().any(occurs));
+        missing.map_or(Ok(()), |line| Err(RowFault::Missing(line[0])))
     }
 
+    /// Of choices only: members of a group may stand together.
     fn check_choices(&self, list: &[Identifier]) -> Result<(), RowFault> {
         for must in self.must {
-            if let Either(first, second) = *must {
-                if let (Some(one), Some(other)) = (position(list, first), position(list, second)) {
+            if let Either(both) = must {
+                if let [Some(one), Some(other)] = both.map(|member| position(list, member)) {
                     return Err(RowFault::Both(one.max(other)));
                 }
             }
@@ -167,9 +170,6 @@ impl Row {
 
 /// Where the primitive parameter of this number first occurs.
 fn position(list: &[Identifier], number: u16) -> Option<usize> {
-    let wanted = Identifier {
-        number,
-        constructor: false,
-    };
+    let wanted = Identifier::primitive(number);
     list.iter().position(|entry| *entry == wanted)
 }

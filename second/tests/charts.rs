@@ -1,9 +1,10 @@
-//! Every chart of the paper, starred or not, those of errors and rejects, and
-//! the order of the numbers.
+//! Every chart of the paper, starred or not, those of errors and rejects, of
+//! the rows with a group, and the order of the numbers.
 
 use second::listing::list;
 use second::reader::{packed, read, Accepted, ENTRY_NUMBERS, TABLE_NUMBERS};
 use second::refusal::Refusal;
+use second::rows::{Identifier, ROWS};
 
 fn octets(text: &str) -> Vec<u8> {
     text.split_whitespace()
@@ -483,13 +484,17 @@ fn identifiers() {
     assert_eq!(refused(&set("BF FF FF FF 7F 00"), 26), (9, 7));
 }
 
-/// RegistrationNotification INVOKE with these parameters of no octets.
-fn registration(parameters: &str) -> String {
+/// An INVOKE without ID octets, whose parameters begin at 10.
+fn invoke(specifier: &str, parameters: &str) -> String {
     let count = parameters.split_whitespace().count();
     format!(
-        "E9 {:02X} CF 00 D1 02 09 0D F2 {count:02X} {parameters}",
+        "E9 {:02X} CF 00 D1 02 09 {specifier} F2 {count:02X} {parameters}",
         count + 8
     )
+}
+
+fn registration(parameters: &str) -> String {
+    invoke("0D", parameters)
 }
 
 #[test]
@@ -507,6 +512,143 @@ fn choice() {
     assert_eq!(refused(&registration("96 00 96 00"), 0), (12, 12));
     let both = "89 00 95 00 91 00 88 00 9F 81 72 00";
     assert_eq!(refused(&registration(both), 0), (13, 22));
+}
+
+const PAGE: &str = "E9 19 CF 01 05 D1 02 09 20 F2 10 81 00 89 04 82 1A 2B 3C \
+                    9F 81 69 04 12 34 56 78";
+const SMS_PAGE: &str = "E9 19 CF 00 D1 02 09 65 F2 11 88 05 21 43 65 87 09 9F 69 00 \
+                        9F 81 69 00 9F 74 00";
+
+#[test]
+fn network_tmsi_is_named() {
+    let (answer, table) = accepted(PAGE, 0);
+    assert_eq!((answer.all, answer.named, answer.other), (3, 3, 0));
+    let entries = [[1, 0, 13, 0, 11], [9, 0, 15, 4, 13], [233, 0, 23, 4, 19]];
+    assert_eq!(table, entries.concat());
+    let (answer, table) = accepted(SMS_PAGE, 0);
+    assert_eq!((answer.all, answer.named, answer.other), (4, 4, 0));
+    assert_eq!(table[2 * ENTRY_NUMBERS..][..2], [233, 0]);
+    // HandoffBack2 does not name it, so that it may occur again.
+    let back = invoke("25", "81 00 86 00 82 00 9F 81 69 00 9F 81 69 00");
+    let (answer, _) = accepted(&back, 0);
+    assert_eq!((answer.all, answer.named, answer.other), (5, 3, 2));
+    let named = ROWS
+        .iter()
+        .filter(|row| row.names(Identifier::primitive(233)));
+    assert!(named
+        .map(|row| (row.kind, row.specifier))
+        .eq([(0xE9, 0x20), (0xE9, 0x65)]));
+}
+
+const MIN: &str = "88 00";
+const IMSI: &str = "9F 81 72 00";
+const NETWORK_TMSI: &str = "9F 81 69 00";
+
+/// The group is that of InterSystemPage and of InterSystemSMSPage; with the
+/// specifier what must occur beside it, by number too.
+type Page = (&'static str, [(&'static str, u32); 2]);
+
+const PAGES: [Page; 2] = [
+    ("20", [("81 00", 1), ("89 00", 9)]),
+    ("65", [("9F 69 00", 105), ("9F 74 00", 116)]),
+];
+
+/// With both of what must occur beside the group.
+fn page((specifier, [(first, _), (second, _)]): Page, before: &str, behind: &str) -> String {
+    invoke(specifier, &format!("{before} {first} {second} {behind}"))
+}
+
+#[test]
+fn any_of_a_group() {
+    let several = [
+        (MIN.into(), 1),
+        (IMSI.into(), 1),
+        (NETWORK_TMSI.into(), 1),
+        (format!("{MIN} {IMSI}"), 2),
+        (format!("{IMSI} {MIN}"), 2),
+        (format!("{MIN} {NETWORK_TMSI}"), 2),
+        (format!("{NETWORK_TMSI} {IMSI}"), 2),
+        (format!("{MIN} {IMSI} {NETWORK_TMSI}"), 3),
+        (format!("{NETWORK_TMSI} {MIN} {IMSI}"), 3),
+    ];
+    for of in PAGES {
+        for (members, count) in &several {
+            for text in [page(of, "", members), page(of, members, "")] {
+                let answer = accepted(&text, 0).0;
+                assert_eq!((answer.named, answer.other), (2 + count, 0), "{text}");
+            }
+        }
+        let apart = accepted(&page(of, IMSI, NETWORK_TMSI), 0).0;
+        assert_eq!((apart.named, apart.other), (4, 0));
+    }
+}
+
+#[test]
+fn none_of_a_group() {
+    for of in PAGES {
+        let (specifier, [(first, first_number), (second, second_number)]) = of;
+        assert_eq!(refused(&page(of, "", ""), 0), (13, 8));
+        // The others are asked before, also where the group is missing.
+        for members in ["", MIN, IMSI, NETWORK_TMSI, "BF 81 69 00"] {
+            let without = |kept: &str| refused(&invoke(specifier, &format!("{members} {kept}")), 0);
+            assert_eq!(without(second), (13, first_number));
+            assert_eq!(without(first), (13, second_number));
+            assert_eq!(without(""), (13, first_number));
+        }
+    }
+    // What else a row names is not of the group, nor are near numbers.
+    let page_of = |more: &str| refused(&invoke("20", &format!("81 00 89 00 {more}")), 0);
+    assert_eq!(page_of("95 00 96 00 9F 20 00"), (13, 8));
+    assert_eq!(
+        page_of("9F 69 00 9F 72 00 9F 81 68 00 9F 81 6A 00"),
+        (13, 8)
+    );
+    let sms = "9F 69 00 9F 74 00 89 00 9F 82 69 00";
+    assert_eq!(refused(&invoke("65", sms), 0), (13, 8));
+}
+
+/// The constructor twin is another identifier: it is not named, it stands for
+/// no member, and it does not repeat one.
+#[test]
+fn twins_of_a_group() {
+    for of in PAGES {
+        for (member, twin) in [
+            (MIN, "A8 00"),
+            (IMSI, "BF 81 72 00"),
+            (NETWORK_TMSI, "BF 81 69 00"),
+        ] {
+            assert_eq!(refused(&page(of, "", twin), 0), (13, 8));
+            assert_eq!(refused(&page(of, twin, twin), 0), (13, 8));
+            let answer = accepted(&page(of, twin, &format!("{member} {twin}")), 0).0;
+            assert_eq!((answer.named, answer.other), (3, 2));
+        }
+        let all = "A8 00 BF 81 72 00 BF 81 69 00";
+        assert_eq!(refused(&page(of, "", all), 0), (13, 8));
+    }
+}
+
+/// 12 points to the second, whatever other members there are, and comes before
+/// 13.
+#[test]
+fn a_member_of_a_group_again() {
+    for of in PAGES {
+        let (specifier, [(first, _), (second, _)]) = of;
+        let others = format!("{first} {second}").split_whitespace().count() as u32;
+        for (member, count) in [(MIN, 2), (IMSI, 4), (NETWORK_TMSI, 4)] {
+            assert_eq!(
+                refused(&page(of, member, member), 0),
+                (12, 10 + count + others)
+            );
+            let twice = format!("{member} {member}");
+            assert_eq!(refused(&page(of, &twice, ""), 0), (12, 10 + count));
+            assert_eq!(refused(&invoke(specifier, &twice), 0), (12, 10 + count));
+            let all = format!("{MIN} {IMSI} {NETWORK_TMSI}");
+            assert_eq!(refused(&page(of, &all, member), 0), (12, 20 + others));
+        }
+        let again = format!("{first} {first} {second}");
+        let place = 10 + first.split_whitespace().count() as u32;
+        assert_eq!(refused(&invoke(specifier, &again), 0), (12, place));
+    }
 }
 
 #[test]

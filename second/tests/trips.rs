@@ -5,7 +5,7 @@ use second::generate::{read_case, write_case, ReadCase};
 use second::padding::is_padded;
 use second::reader::{self, read, Accepted, ENTRY_NUMBERS, TABLE_NUMBERS};
 use second::refusal::Refusal;
-use second::rows::ROWS;
+use second::rows::{self, Row, ROWS};
 use second::types::{self, ComponentType, INVOKE, REJECT, TYPES};
 use second::writer::{self, write, Head};
 use std::collections::{BTreeMap, BTreeSet};
@@ -319,4 +319,93 @@ fn errors_and_rejects_hold_what_a_row_would_refuse() {
     for counts in [repeats, callers] {
         assert!(counts.len() == 2 && counts.values().all(|count| *count > 500));
     }
+}
+
+/// For the rows with a group, by specifier: how often so many members are
+/// taken together (0), a member occurs again (12), and the line with this
+/// first number is missing (13).
+type Groups = BTreeMap<(u8, u8, u32), usize>;
+
+fn check_groups(met: &Groups, least: usize) {
+    for row in ROWS.iter().filter(|row| !row.group.is_empty()) {
+        let taken = (1..=row.group.len()).map(|count| (0, count as u32));
+        let again = row.group.iter().map(|member| (12, u32::from(*member)));
+        let missing = row.lines().map(|line| (13, u32::from(line[0])));
+        for (number, detail) in taken.chain(again).chain(missing) {
+            let count = met.get(&(row.specifier, number, detail));
+            let count = count.copied().unwrap_or(0);
+            let specifier = row.specifier;
+            assert!(count >= least, "{specifier}, {number}, {detail}: {count}");
+        }
+    }
+    assert!(met.keys().all(|(_, number, _)| *number != 14));
+}
+
+fn count_members(row: &Row, table: &[u16]) -> u32 {
+    let entries = table.chunks_exact(ENTRY_NUMBERS);
+    let members = entries.filter(|entry| row.group.contains(&entry[0]) && entry[1] == 0);
+    members.count() as u32
+}
+
+/// The row of an INVOKE whose lengths are of one octet.
+fn row_of(component: &[u8]) -> Option<&'static Row> {
+    let (_, place) = behind_id(component)?;
+    match component.get(place as usize..)? {
+        [0xD1, 0x02, 0x09, specifier, ..] => rows::find(INVOKE, *specifier),
+        _ => None,
+    }
+}
+
+#[test]
+fn groups_are_read() {
+    let mut random = read_random(20);
+    let mut met = Groups::new();
+    for _ in 0..CASES {
+        let case = read_case(&mut random);
+        let Some(row) = row_of(&case.component).filter(|row| !row.group.is_empty()) else {
+            continue;
+        };
+        let (answer, table) = answer_read(&case);
+        let (number, detail) = match answer {
+            Ok(_) => (0, count_members(row, &table)),
+            Err(Refusal {
+                number: 12, detail, ..
+            }) => (12, member_at(row, &case.component, detail)),
+            Err(refusal) => (refusal.number, refusal.detail),
+        };
+        *met.entry((row.specifier, number, detail)).or_insert(0) += 1;
+    }
+    check_groups(&met, 5);
+}
+
+/// 0 where no member of the group stands.
+fn member_at(row: &Row, component: &[u8], place: u32) -> u32 {
+    let octets = &component[place as usize..];
+    let stands = |member: &&u16| octets.starts_with(&identifier(**member, 0));
+    u32::from(row.group.iter().find(stands).copied().unwrap_or(0))
+}
+
+#[test]
+fn groups_are_written() {
+    let mut random = write_random(21);
+    let mut met = Groups::new();
+    for _ in 0..CASES {
+        let case = write_case(&mut random);
+        let row = rows::find(case.head.kind, case.head.code[0]);
+        let Some(row) = row.filter(|row| !row.group.is_empty()) else {
+            continue;
+        };
+        let (number, detail) = match answer_write(&case).0 {
+            Ok(_) => (
+                0,
+                count_members(row, &case.table[..ENTRY_NUMBERS * case.entries]),
+            ),
+            Err(Refusal {
+                number: 12, detail, ..
+            }) => (12, u32::from(case.table[ENTRY_NUMBERS * detail as usize])),
+            Err(refusal) => (refusal.number, refusal.detail),
+        };
+        *met.entry((row.specifier, number, detail)).or_insert(0) += 1;
+    }
+    check_groups(&met, 10);
 }

@@ -260,6 +260,99 @@ fn rows_are_asked_between_15_and_17() {
     assert_eq!(answer(choice, 5, &both, &[], 0), (13, 22));
 }
 
+/// The answer to these primitive numbers with no contents, into enough room.
+fn ordered(head: Head, numbers: &[u16]) -> (u8, u32) {
+    let entries = numbers.iter().map(|number| [*number, 0, 0, 0, PLACE]);
+    let table = entries.collect::<Vec<_>>().concat();
+    answer(head, numbers.len(), &table, &[], 64)
+}
+
+/// InterSystemPage and InterSystemSMSPage with what must occur beside the
+/// group, and how many octets that takes.
+const PAGES: [(u8, [u16; 2], u32); 2] = [(32, [1, 9], 4), (101, [105, 116], 6)];
+
+fn page(specifier: u8) -> Head {
+    Head {
+        kind: 0xE9,
+        id_count: 0,
+        code: [specifier, 0xBB],
+        ..HEAD
+    }
+}
+
+#[test]
+fn pages_are_written() {
+    let by_network_tmsi = [
+        0xE9, 0x10, 0xCF, 0x00, 0xD1, 0x02, 0x09, 0x20, 0xF2, 0x08, 0x81, 0x00, 0x89, 0x00, 0x9F,
+        0x81, 0x69, 0x00,
+    ];
+    let entries = table([1, 9, 233].map(|number| [number, 0, 0, 0]));
+    assert_eq!(written(page(32), &entries), by_network_tmsi);
+    let by_all_three = [
+        0xE9, 0x18, 0xCF, 0x00, 0xD1, 0x02, 0x09, 0x65, 0xF2, 0x10, 0x9F, 0x81, 0x69, 0x00, 0x9F,
+        0x69, 0x00, 0x88, 0x00, 0x9F, 0x74, 0x00, 0x9F, 0x81, 0x72, 0x00,
+    ];
+    let entries = table([233, 105, 8, 116, 242].map(|number| [number, 0, 0, 0]));
+    assert_eq!(written(page(101), &entries), by_all_three);
+}
+
+#[test]
+fn groups() {
+    for (specifier, [first, second], octets) in PAGES {
+        let head = page(specifier);
+        let asked = |numbers: &[u16]| ordered(head, numbers);
+        for (members, more) in [
+            (&[8][..], 2),
+            (&[242], 4),
+            (&[233], 4),
+            (&[8, 242], 6),
+            (&[233, 8], 6),
+            (&[242, 233], 8),
+            (&[8, 242, 233], 10),
+            (&[233, 242, 8], 10),
+        ] {
+            let taken = (0, 10 + octets + more);
+            assert_eq!(asked(&[&[first, second], members].concat()), taken);
+            assert_eq!(asked(&[members, &[second, first]].concat()), taken);
+        }
+        assert_eq!(asked(&[first, second]), (13, 8));
+        assert_eq!(asked(&[first, second, 234, 105 + 256, 200]), (13, 8));
+        for members in [&[][..], &[8], &[242], &[233]] {
+            let without = |kept: &[u16]| asked(&[members, kept].concat());
+            assert_eq!(without(&[second]), (13, u32::from(first)));
+            assert_eq!(without(&[first]), (13, u32::from(second)));
+            assert_eq!(without(&[]), (13, u32::from(first)));
+        }
+    }
+}
+
+/// 12 gives the second's entry, whatever other members there are, and comes
+/// before 13; a twin is no second, and stands for no member.
+#[test]
+fn members_of_groups_again() {
+    for (specifier, [first, second], octets) in PAGES {
+        let head = page(specifier);
+        for member in [8, 242, 233] {
+            let asked = |numbers: &[u16]| ordered(head, numbers);
+            assert_eq!(asked(&[member, first, second, member]), (12, 3));
+            assert_eq!(asked(&[first, member, member, second]), (12, 2));
+            assert_eq!(asked(&[member, member]), (12, 1));
+            assert_eq!(asked(&[8, 242, 233, first, second, member]), (12, 5));
+            let forms = |list: [(u16, u16); 4]| table(list.map(|(n, form)| [n, form, 0, 0]));
+            let twins = forms([(member, 1), (first, 0), (second, 0), (member, 1)]);
+            assert_eq!(answer(head, 4, &twins, &[], 64), (13, 8));
+            let twin = forms([(member, 1), (first, 0), (second, 0), (member, 0)]);
+            let size = if member == 8 { 2 } else { 4 };
+            let taken = (0, 10 + octets + 2 * size);
+            assert_eq!(answer(head, 4, &twin, &[], 64), taken);
+        }
+        assert_eq!(ordered(head, &[first, second, second]), (12, 2));
+    }
+    // HandoffBack2 names only IMSI of them.
+    assert_eq!(ordered(page(37), &[1, 6, 2, 233, 8, 233, 8]), (0, 28));
+    assert_eq!(ordered(page(37), &[1, 6, 2, 242, 233, 242]), (12, 5));
+}
+
 /// Octets needed by a result of equal entries of one-octet numbers.
 fn needed(entries: usize, length: u16) -> (u8, u32) {
     let table = table([[7, 0, 0, length]]).repeat(entries);

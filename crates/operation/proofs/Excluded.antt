@@ -26,8 +26,8 @@ use Rattle.component.specs.Composing.{entryStands, takenFrom, entriesFrom, entr
 use Rattle.element.specs.Output.{written, outputAfter}
 use Rattle.component.specs.Types.{formatOf, typed, idFits}
 use Rattle.component.specs.Needed.{elementSize, setSize, codingSize, bodySize, octetsNeeded}
-use Rattle.operation.specs.Row.{Row, key, numberOf, onLine, named, named as names, repeats}
-use Rattle.operation.specs.Judge.{occurs, lastMark, once, present, single, judge, countNamed}
+use Rattle.operation.specs.Row.{Row, key, numberOf, members, among, onLine, asks, named, named as names, repeats}
+use Rattle.operation.specs.Judge.{occurs, anyOccurs, lastMark, once, met, present, doubled, single, judge, countNamed}
 use Rattle.operation.specs.Rows.{operations}
 use Rattle.operation.specs.Finding.{find, rowed, rowOf}
 use Rattle.operation.specs.Items.{itemsOf}
@@ -83,6 +83,23 @@ padded = 0xEA ∷ 0x82 ∷ 0x00 ∷ 0x0C ∷ 0xCF ∷ 0x81 ∷ 0x01 ∷ 0x05 ∷
 abbrev form-80 : Octets
 form-80 = 0xE9 ∷ 0x80 ∷ []
 
+-- an InterSystemPage with BillingID and what is behind it, and what is told of it
+abbrev page : (octets set : ℕ) → Octets → Octets
+page n m ps = 0xE9 ∷ n ∷ 0xCF ∷ 0x01 ∷ 0x05 ∷ 0xD1 ∷ 0x02 ∷ 0x09 ∷ 0x20 ∷ 0xF2 ∷ m ∷ 0x81 ∷ 0x00 ∷ ps
+
+abbrev paged : (all : ℕ) → Told
+paged n = record { kind = 0xE9; id = record { count = 1; first = 5; second = 0 }; code = record { first = 32; second = 0 }; all = n; named = n; other = 0 }
+
+-- behind BillingID: NetworkTMSI, ESN, IMSI and MIN; ESN and NetworkTMSI; ESN and the group's constructors
+abbrev several : Octets
+several = 0x9F ∷ 0x81 ∷ 0x69 ∷ 0x00 ∷ 0x89 ∷ 0x00 ∷ 0x9F ∷ 0x81 ∷ 0x72 ∷ 0x00 ∷ 0x88 ∷ 0x00 ∷ []
+
+abbrev temporary : Octets
+temporary = 0x89 ∷ 0x00 ∷ 0x9F ∷ 0x81 ∷ 0x69 ∷ 0x00 ∷ []
+
+abbrev twins : Octets
+twins = 0x89 ∷ 0x00 ∷ 0xA8 ∷ 0x00 ∷ 0xBF ∷ 0x81 ∷ 0x72 ∷ 0x00 ∷ 0xBF ∷ 0x81 ∷ 0x69 ∷ 0x00 ∷ []
+
 chart-octets : AreOctets chart
 chart-octets = small chart (omega arith)
 
@@ -93,7 +110,7 @@ abbrev order : Order
 order = record { kind = 0xEA; id = record { count = 1; first = 5; second = 0 }; code = record { first = 4; second = 0 }; count = 1; table = 5 ∷ 0 ∷ 0 ∷ 0 ∷ 0 ∷ []; source = [] }
 
 composed-so : writer order (replicate 9 0) ≡ record { answer = accepted 9; output = chart }
-unfolding shortest fieldSize identifier identifierSize key numberOf onLine named repeats occurs lastMark once present single judge countNamed operations find rowed rowOf formatOf typed element setOf codeElement composed fits heldFrom parameterOf entryStands takenFrom elementSize setSize codingSize bodySize octetsNeeded idFits idOctets writtenCode componentOf entriesOf octetsOf written outputAfter itemsOf writing
+unfolding shortest fieldSize identifier identifierSize key numberOf members among onLine asks named repeats occurs anyOccurs lastMark once met present doubled single judge countNamed operations find rowed rowOf formatOf typed element setOf codeElement composed fits heldFrom parameterOf entryStands takenFrom elementSize setSize codingSize bodySize octetsNeeded idFits idOctets writtenCode componentOf entriesOf octetsOf written outputAfter itemsOf writing
 composed-so = refl
 
 -- an entry but for its place
@@ -247,6 +264,25 @@ module _ (r : Reader) (w : Writer) (d : Demands r w) where
       (h : LaidOut c s) (k : LaidOut c u) → RowFor (c .kind) (itsOperation c given) row →
       Truthful (h .laid) (k .laid) (no-newcomer row (c .parameters)) t (r s given t) (r u given t)
   lengths-change-nothing given c s u t {row} o b enough h k e = d .third .truthful given c c s u t o b enough h k refl refl refl e (no-newcomer row (c .parameters))
+
+  -- ---- groups: `only-the-group` and `of-a-choice` (Groups) say the same of any run
+  -- ESN and all of the group are missing
+  pub group-asked-last : r (page 0x0B 0x02 []) 0 zeros ≡ read (refused 13 9) zeros
+  group-asked-last = ours-is _ 0 zeros (small (page 0x0B 0x02 []) (omega arith)) ∙ ap (at 56) rows-live
+
+  pub group-gives-its-first : r (page 0x0D 0x04 (0x89 ∷ 0x00 ∷ [])) 0 zeros ≡ read (refused 13 8) zeros
+  group-gives-its-first = ours-is _ 0 zeros (small (page 0x0D 0x04 (0x89 ∷ 0x00 ∷ [])) (omega arith)) ∙ ap (at 55) rows-live
+
+  pub several-taken : r (page 0x17 0x0E several) 0 zeros .answer ≡ accepted (paged 5)
+  several-taken = ap (λ x. x .answer) (ours-is _ 0 zeros (small (page 0x17 0x0E several) (omega arith)) ∙ ap (at 54) rows-live)
+
+  -- NetworkTMSI alone: named, and none is other
+  pub network-TMSI-named : r (page 0x11 0x08 temporary) 0 zeros .answer ≡ accepted (paged 3)
+  network-TMSI-named = ap (λ x. x .answer) (ours-is _ 0 zeros (small (page 0x11 0x08 temporary) (omega arith)) ∙ ap (at 53) rows-live)
+
+  -- the three members as constructors
+  pub twins-are-others : r (page 0x17 0x0E twins) 0 zeros ≡ read (refused 13 8) zeros
+  twins-are-others = ours-is _ 0 zeros (small (page 0x17 0x0E twins) (omega arith)) ∙ ap (at 57) rows-live
 
   pub not-writing-nothing : ((o : Order) (out : Octets) → w o out .output ≡ out) → ⊥
   unfolding OnlyOne

@@ -1,5 +1,6 @@
 pub mod Newcomers
 pub mod Lines
+pub mod Groups
 pub mod Untouched
 pub mod Marks
 pub mod RowFaults

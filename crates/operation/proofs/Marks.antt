@@ -1,14 +1,15 @@
 -- Marks only point: where they move, the judgement is the same and its refusals move along.
 use Prim.Native.Nat.{ℕ}
 use mathlib.Core.Path.{_≡_, refl}
-use mathlib.Core.Bool.{Bool, true, false, _&&_, _||_, not}
+use mathlib.Core.Bool.{Bool, true, false, _&&_, not}
 use mathlib.Core.List.{List, [], _∷_, map}
 use lib.Dec.{eqb}
+use borrow.Author.Tests.{not-false}
 use Rattle.element.specs.Octets.{if}
 use Rattle.element.specs.Answer.{Answer, accepted, refused, _>>_, check}
-use Rattle.operation.specs.Row.{numberOf, Row, must, oneOf, may, Item, named, repeats}
-use Rattle.operation.specs.Judge.{occurs, once, present, single, judge, countNamed, pointed, remark}
-use Rattle.operation.proofs.Lines.{last}
+use Rattle.operation.specs.Row.{Row, asks, Item, named, repeats}
+use Rattle.operation.specs.Judge.{occurs, once, met, present, doubled, single, judge, countNamed, pointed, remark}
+use Rattle.operation.proofs.Lines.{met-same, last}
 
 module _ (f : ℕ → ℕ) where
   -- two answers, the first with its mark moved
@@ -39,15 +40,10 @@ module _ (f : ℕ → ℕ) where
   lines-marked : (row : Row) (xs : List Item) → Moved (present row (map (remark f) xs)) (present row xs) × Moved (single row (map (remark f) xs)) (single row xs)
   unfolding present single
   lines-marked [] xs = (stays, stays)
-  lines-marked (must j ∷ ls) xs =
+  lines-marked (l ∷ ls) xs =
       let (p, s) = lines-marked ls xs in
-      (rw (occurs-marked j xs) (also (test (occurs j xs) 13 (numberOf j) λ _. refl) p), s)
-  lines-marked (oneOf i j ∷ ls) xs =
-      let (p, s) = lines-marked ls xs in
-      let a = occurs i xs in
-      let b = occurs j xs in
-      rw (occurs-marked i xs, occurs-marked j xs) (also (test (a || b) 13 (numberOf i) λ _. refl) p, also (test (not (a && b)) 14 _ λ e. last (λ m n. m ≡ f n) f i j xs e λ _ _ _. refl) s)
-  lines-marked (may j ∷ ls) xs = lines-marked ls xs
+      let (m, d) = met-same xs (map (remark f) xs) l λ k _. occurs-marked k xs in
+      rw (m, d) (also (test (met l xs) 13 (asks l) λ _. refl) p, also (test (not (doubled l xs)) 14 _ λ e. last (λ m n. m ≡ f n) f l xs (not-false _ e) λ _ _ _. refl) s)
 
   moved : {a b : Answer Unit} → Moved a b → a ≡ pointed f b
   unfolding pointed

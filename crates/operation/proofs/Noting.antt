@@ -17,8 +17,8 @@ use Rattle.operation.proofs.Entries as E
 use Rattle.operation.proofs.Entries.{rest, earlier, all, over, more}
 use Rattle.operation.proofs.Repeats.{left}
 use Rattle.operation.proofs.Repeats as R
-use Rattle.operation.proofs.Lines.{self}
-use Rattle.operation.proofs.Sets.{each, empty, one-more}
+use Rattle.operation.proofs.Lines.{each, self}
+use Rattle.operation.proofs.Sets.{empty, one-more}
 
 -- two items in the other order
 swapped : (a b c : Bool) → ((a || b) || c) ≡ (b || (a || c))

@@ -15,9 +15,9 @@ use Rattle.component.specs.Grammar.{Parameter, Component}
 use Rattle.component.specs.Table.{idOf, codeOf}
 use Rattle.component.proofs.Details.{listed, stands-in, id-octets, code-octets, two-octets, operation-in, needed-most}
 use Rattle.component.proofs.Typing.{two-at-most}
-use Rattle.operation.specs.Row.{Row, Line, Item, key, numberOf}
+use Rattle.operation.specs.Row.{Row, Line, Item, key, numberOf, asks}
 use Rattle.operation.specs.Rows.{Operation, operations}
-use Rattle.operation.specs.Faults.{First, asks, RowFault, again, missing, both}
+use Rattle.operation.specs.Faults.{First, RowFault, again, missing, both}
 use Rattle.operation.specs.Items.{itemOf, itemsOf}
 use Rattle.operation.specs.Codes.{toldCode}
 use Rattle.operation.specs.Caller.{Told, Order}
@@ -25,7 +25,7 @@ use Rattle.operation.specs.Demands.{RowFor, listed as in-the-book, unask
 use Rattle.operation.specs.Model.{reader, writer}
 use Rattle.operation.specs.Packed.{octets, countsOf, toldOctets, packedReading, packedWriting, octetAt, unpackedReading, unpackedWriting, RefusalFits, ReadingFits, WritingFits, AreNumbers, Apart}
 use Rattle.operation.proofs.RowFaults.{last-in}
-use Rattle.operation.proofs.RowsFound.{both as both-true}
+use Rattle.operation.proofs.Lines.{all, of-all}
 use Rattle.operation.proofs.OnlyOne.{reader-accepts}
 use Rattle.operation.proofs.Model.{counted, demand1-ours, demand2-ours}
 use Rattle.operation.proofs.Counts as counts
@@ -94,15 +94,6 @@ writing-apart (accepted count) h = rw (low 0 count (omega arith), high 0 count (
 writing-apart (refused n d) h = rw (low n d (h .octet), ne-eqb n 0 (omega arith), high n d (h .octet), mod-eq-of-lt (h .four))
 
 -- ---- what a row asks for: one test, computed over all rows
-unfoldable all : {A : Type 0} → (A → Bool) → List A → Bool
-all test [] = true
-all test (x ∷ xs) = test x && all test xs
-
-of-all : {A : Type 0} (test : A → Bool) {x : A} {xs : List A} → List·Memᴰ x xs → all test xs ≡ true → test x ≡ true
-unfolding all
-of-all test {xs = y ∷ xs} (List·Memᴰ·head q) e = rw q (both-true (test y) _ e .0)
-of-all test {xs = y ∷ xs} (List·Memᴰ·tail m) e = of-all test m (both-true (test y) _ e .1)
-
 abbrev asks-few : Line → Bool
 asks-few l = ltb (asks l) 65536
 
@@ -110,7 +101,7 @@ abbrev row-few : Operation → Bool
 row-few o = all asks-few (o .row)
 
 all-few : all row-few operations ≡ true
-unfolding all operations key numberOf
+unfolding all operations key numberOf asks
 all-few = refl
 
 first-in : {A : Type 0} {P : A → Type 0} {xs : List A} {x : A} → First P xs x → List·Memᴰ x xs

@@ -1,7 +1,7 @@
 -- A row accepts a run exactly where the run fits the table as the book words it, and refuses with the fault that the run has, and with no other.
 use Prim.Native.Nat.{ℕ, _+_, _<_, _≤_}
 use mathlib.Core.Path.{_≡_, refl, sym, ap, _∙_}
-use mathlib.Core.Bool.{Bool, true, false, _&&_, _||_, not, true≢false}
+use mathlib.Core.Bool.{Bool, true, false, _&&_, _||_, not, true≢false, or-true}
 use mathlib.Core.List.{List, [], _∷_, _++_, append-assoc, append-nil, List·Memᴰ, List·Memᴰ·head, List·Memᴰ·tail, Memᴰ·append-right}
 use mathlib.Core.Logic.{_⊎_, inl, inr, ⊎-elim, _↔_}
 use lib.Dec.{leb, eqb}
@@ -11,11 +11,11 @@ use native.Mathlib.Omega.{arith}
 use Rattle.element.specs.Octets.{if}
 use Rattle.element.specs.Answer.{Answer, accepted, refused, _>>_, check}
 use Rattle.component.proofs.Ends.{Ends, gives, stops}
-use Rattle.operation.specs.Row.{Row, Line, must, oneOf, may, Item, onLine, named, repeats}
-use Rattle.operation.specs.Judge.{occurs, lastMark, once, present, single, judge}
-use Rattle.operation.specs.Book.{times, Kept, occurred, first, second, allowed, Each, none, more, Once, Fits}
-use Rattle.operation.specs.Faults.{keysOf, First, Last, Unmet, asks, Doubled, RowFault, again, missing, both}
-use Rattle.operation.proofs.Lines.{or-false, self}
+use Rattle.operation.specs.Row.{Row, Line, must, oneOf, anyOf, may, asks, Item, members, among, onLine, named, repeats}
+use Rattle.operation.specs.Judge.{occurs, anyOccurs, lastMark, once, met, present, doubled, single, judge}
+use Rattle.operation.specs.Book.{times, Kept, occurred, first, second, any, allowed, Each, none, more, Once, Fits}
+use Rattle.operation.specs.Faults.{keysOf, First, Last, Unmet, Doubled, RowFault, again, missing, both}
+use Rattle.operation.proofs.Lines.{or-false, each, self}
 
 -- ---- what occurs
 -- what occurs is counted
@@ -54,6 +54,10 @@ module _ (k : ℕ) (xs : List Item) where
 other : (t : Bool) → (t ≡ true → ⊥) → t ≡ false
 other true h = absurd (h refl)
 other false h = refl
+
+not-other : (t : Bool) → (t ≡ false → ⊥) → t ≡ true
+not-other true h = refl
+not-other false h = absurd (h refl)
 
 -- ---- 12
 pass : (a b c : Bool) → (a ≡ true → b ≡ false → c ≡ false) → not (a && (not b && c)) ≡ true
@@ -96,33 +100,43 @@ module _ (xs : List Item) where
   abbrev Ks : List ℕ
   Ks = keysOf xs
 
-  -- what is not counted as missing occurs
-  met : (k : ℕ) → (times k Ks ≡ 0 → ⊥) → occurs k xs ≡ true
-  met k h = occurring k xs (omega arith)
+  none-occurs : (ks : List ℕ) → anyOccurs ks xs ≡ false → Each (λ k. times k Ks ≡ 0) ks
+  unfolding anyOccurs
+  none-occurs [] e = none
+  none-occurs (k ∷ ks) e = let (a, b) = or-false (occurs k xs) _ e in more (absent k xs a) (none-occurs ks b)
 
-  met-one : (i j : ℕ) → ((times i Ks ≡ 0) × (times j Ks ≡ 0) → ⊥) → (occurs i xs || occurs j xs) ≡ true
-  met-one i j h = go (occurs i xs) (occurs j xs) refl refl
-    where
-      go : (a b : Bool) → occurs i xs ≡ a → occurs j xs ≡ b → (a || b) ≡ true
-      go true b p q = refl
-      go false true p q = refl
-      go false false p q = absurd (h (absent i xs p, absent j xs q))
+  one-occurs : {ks : List ℕ} → anyOccurs ks xs ≡ true → Each (λ k. times k Ks ≡ 0) ks → ⊥
+  unfolding anyOccurs
+  one-occurs e none = true≢false (sym e)
+  one-occurs e (more {x = k} z n) = one-occurs (sym (rw (not-occurring k xs z)) ∙ e) n
+
+  -- what the walk finds of a line is as it is counted
+  unmet : (l : Line) → met l xs ≡ false → Unmet Ks l
+  unfolding met
+  unmet (must j) e = absent j xs e
+  unmet (oneOf i j) e = let (a, b) = or-false (occurs i xs) _ e in (absent i xs a, absent j xs b)
+  unmet (anyOf i js) e = none-occurs (i ∷ js) e
+  unmet (may j) e = absurd (true≢false e)
+
+  not-unmet : (l : Line) → met l xs ≡ true → Unmet Ks l → ⊥
+  unfolding met
+  not-unmet (must j) e z = true≢false (sym e ∙ not-occurring j xs z)
+  not-unmet (oneOf i j) e (a, b) = true≢false (sym e ∙ rw (not-occurring i xs a, not-occurring j xs b))
+  not-unmet (anyOf i js) e z = one-occurs e z
+  not-unmet (may j) e z = z
+
+  met-line : (l : Line) → (Unmet Ks l → ⊥) → met l xs ≡ true
+  met-line l h = not-other _ λ e. h (unmet l e)
 
   present-passes : {ls : Row} → Each (λ l. Unmet Ks l → ⊥) ls → present ls xs ≡ accepted tt
   unfolding present
   present-passes none = refl
-  present-passes (more {x = must j} h e) = rw (met j h) (present-passes e)
-  present-passes (more {x = oneOf i j} h e) = rw (met-one i j h) (present-passes e)
-  present-passes (more {x = may j} h e) = present-passes e
+  present-passes (more {x = l} h e) = rw (met-line l h) (present-passes e)
 
   present-refuses : {ls : Row} {l : Line} → First (Unmet Ks) ls l → present ls xs ≡ refused 13 (asks l)
   unfolding present
-  present-refuses (First.here {x = must j} h) = rw (not-occurring j xs h)
-  present-refuses (First.here {x = oneOf i j} h) = rw (not-occurring i xs (h .0), not-occurring j xs (h .1))
-  present-refuses (First.here {x = may j} h) = absurd h
-  present-refuses (First.later {y = must j} h f) = rw (met j h) (present-refuses f)
-  present-refuses (First.later {y = oneOf i j} h f) = rw (met-one i j h) (present-refuses f)
-  present-refuses (First.later {y = may j} h f) = present-refuses f
+  present-refuses (First.here {x = l} h) = let u = other (met l xs) (λ e. not-unmet l e h) in rw u
+  present-refuses (First.later {y = l} h f) = rw (met-line l h) (present-refuses f)
 
   -- ---- 14
   not-last : (l : Line) {ys : List Item} (m : ℕ) → Each (λ y. onLine l (y .is) ≡ true → ⊥) ys → lastMark l m ys ≡ m
@@ -135,29 +149,32 @@ module _ (xs : List Item) where
   is-last l m (Last.here {x = x} h e) = rw h (not-last l (x .mark) e)
   is-last l m (Last.later f) = is-last l _ f
 
-  single-one : (i j : ℕ) → ((1 ≤ times i Ks) × (1 ≤ times j Ks) → ⊥) → not (occurs i xs && occurs j xs) ≡ true
-  single-one i j h = go (occurs i xs) (occurs j xs) refl refl
-    where
-      go : (a b : Bool) → occurs i xs ≡ a → occurs j xs ≡ b → not (a && b) ≡ true
-      go false b p q = refl
-      go true false p q = refl
-      go true true p q = absurd (h (some i xs p, some j xs q))
+  twice : (l : Line) → doubled l xs ≡ true → Doubled Ks l
+  unfolding doubled
+  twice (must j) e = true≢false (sym e)
+  twice (oneOf i j) e = let (a, b) = each (occurs i xs) _ e in (some i xs a, some j xs b)
+  twice (anyOf i js) e = true≢false (sym e)
+  twice (may j) e = true≢false (sym e)
+
+  not-twice : (l : Line) → doubled l xs ≡ false → Doubled Ks l → ⊥
+  unfolding doubled
+  not-twice (must j) e d = d
+  not-twice (oneOf i j) e (a, b) = true≢false (sym (rw (occurring i xs a, occurring j xs b)) ∙ e)
+  not-twice (anyOf i js) e d = d
+  not-twice (may j) e d = d
+
+  single-line : (l : Line) → (Doubled Ks l → ⊥) → doubled l xs ≡ false
+  single-line l h = other _ λ e. h (twice l e)
 
   single-passes : {ls : Row} → Each (λ l. Doubled Ks l → ⊥) ls → single ls xs ≡ accepted tt
   unfolding single
   single-passes none = refl
-  single-passes (more {x = must j} h e) = single-passes e
-  single-passes (more {x = oneOf i j} h e) = rw (single-one i j h) (single-passes e)
-  single-passes (more {x = may j} h e) = single-passes e
+  single-passes (more {x = l} h e) = rw (single-line l h) (single-passes e)
 
   single-refuses : {ls : Row} {l : Line} {x : Item} → First (Doubled Ks) ls l → Last (λ y. onLine l (y .is) ≡ true) xs x → single ls xs ≡ refused 14 (x .mark)
   unfolding single
-  single-refuses (First.here {x = must j} h) y = absurd h
-  single-refuses (First.here {x = oneOf i j} h) y = rw (occurring i xs (h .0), occurring j xs (h .1)) (ap (λ k. refused 14 k) (is-last (oneOf i j) 0 y))
-  single-refuses (First.here {x = may j} h) y = absurd h
-  single-refuses (First.later {y = must j} h f) y = single-refuses f y
-  single-refuses (First.later {y = oneOf i j} h f) y = rw (single-one i j h) (single-refuses f y)
-  single-refuses (First.later {y = may j} h f) y = single-refuses f y
+  single-refuses (First.here {x = l} h) y = let d = not-other (doubled l xs) (λ e. not-twice l e h) in rw d (ap (λ k. refused 14 k) (is-last l 0 y))
+  single-refuses (First.later {y = l} h f) y = rw (single-line l h) (single-refuses f y)
 
 module _ {row : Row} {xs : List Item} where
   pub row-refuses : {n d : ℕ} → RowFault row xs n d → judge row xs ≡ refused n d
@@ -208,28 +225,18 @@ module _ (row : Row) where
 
 module _ (xs : List Item) where
   absent-line : (l : Line) → Dec (Unmet (keysOf xs) l)
-  absent-line (must j) = go (occurs j xs) refl
+  absent-line l = by (met l xs) refl
     where
-      go : (a : Bool) → occurs j xs ≡ a → Dec (times j (keysOf xs) ≡ 0)
-      go true p = no λ z. let h = some j xs p in omega arith
-      go false p = yes (absent j xs p)
-  absent-line (oneOf i j) = go (occurs i xs) (occurs j xs) refl refl
-    where
-      go : (a b : Bool) → occurs i xs ≡ a → occurs j xs ≡ b → Dec ((times i (keysOf xs) ≡ 0) × (times j (keysOf xs) ≡ 0))
-      go true b p q = no λ z. let h = some i xs p in omega arith
-      go false true p q = no λ z. let h = some j xs q in omega arith
-      go false false p q = yes (absent i xs p, absent j xs q)
-  absent-line (may j) = no λ z. z
+      by : (t : Bool) → met l xs ≡ t → Dec (Unmet (keysOf xs) l)
+      by true e = no (not-unmet xs l e)
+      by false e = yes (unmet xs l e)
 
   doubled-line : (l : Line) → Dec (Doubled (keysOf xs) l)
-  doubled-line (must j) = no λ z. z
-  doubled-line (oneOf i j) = go (occurs i xs) (occurs j xs) refl refl
+  doubled-line l = by (doubled l xs) refl
     where
-      go : (a b : Bool) → occurs i xs ≡ a → occurs j xs ≡ b → Dec ((1 ≤ times i (keysOf xs)) × (1 ≤ times j (keysOf xs)))
-      go true true p q = yes (some i xs p, some j xs q)
-      go true false p q = no λ z. let h = absent j xs q in omega arith
-      go false b p q = no λ z. let h = absent i xs p in omega arith
-  doubled-line (may j) = no λ z. z
+      by : (t : Bool) → doubled l xs ≡ t → Dec (Doubled (keysOf xs) l)
+      by true e = yes (twice xs l e)
+      by false e = no (not-twice xs l e)
 
 -- the first of a list, or none
 find-first : {P : Line → Type 0} → ((l : Line) → Dec (P l)) → (ls : Row) → ((l : Line) × First P ls l) ⊎ Each (λ l. P l → ⊥) ls
@@ -257,9 +264,28 @@ first-holds (First.here p) = p
 first-holds (First.later n f) = first-holds f
 
 none-on : (i j : ℕ) {ys : List Item} → Each (λ y. onLine (oneOf i j) (y .is) ≡ true → ⊥) ys → times i (keysOf ys) ≡ 0
-unfolding times onLine
+unfolding times onLine members among
 none-on i j none = refl
-none-on i j (more {x = y} h e) = rw (or-false (eqb (y .is) i) (eqb (y .is) j) (other _ h) .0) (none-on i j e)
+none-on i j (more {x = y} h e) = rw (or-false (eqb (y .is) i) _ (other _ h) .0) (none-on i j e)
+
+-- of a group one occurs, or all are absent
+some-of : (ks js : List ℕ) → (Each (λ j. times j ks ≡ 0) js → ⊥) → (j : ℕ) × (among js j ≡ true) × (1 ≤ times j ks)
+unfolding among
+some-of ks [] h = absurd (h none)
+some-of ks (j ∷ js) h = go (decLe 1 (times j ks)) λ z. some-of ks js λ e. h (more z e)
+  where
+    go : Dec (1 ≤ times j ks) → (times j ks ≡ 0 → (i : ℕ) × (among js i ≡ true) × (1 ≤ times i ks)) → (i : ℕ) × ((eqb i j || among js i) ≡ true) × (1 ≤ times i ks)
+    go (yes a) f = (j, rw (self j), a)
+    go (no a) f = let (i, m, o) = f (omega arith) in (i, rw m (or-true (eqb i j)), o)
+
+absent-all : (ks : List ℕ) {js : List ℕ} (j : ℕ) → Each (λ i. times i ks ≡ 0) js → among js j ≡ true → times j ks ≡ 0
+unfolding among
+absent-all ks j none m = absurd (true≢false (sym m))
+absent-all ks j (more {x = i} {xs = js} z n) m = by (eqb j i) refl m (absent-all ks j n)
+  where
+    by : (t : Bool) → eqb j i ≡ t → (t || among js j) ≡ true → (among js j ≡ true → times j ks ≡ 0) → times j ks ≡ 0
+    by true e h f = rw (eqb-true j i e) z
+    by false e h f = f h
 
 -- a line is kept where something meets it and not both of a choice do
 kept-so : {ks : List ℕ} (l : Line) → (Unmet ks l → ⊥) → (Doubled ks l → ⊥) → Kept ks l
@@ -275,12 +301,14 @@ kept-so {ks} (oneOf i j) h k = go (decLe 1 (times i ks))
       where
         one-so : (times j ks ≡ 0 → ⊥) → 1 ≤ times j ks
         one-so f = omega arith
+kept-so {ks} (anyOf i js) h k = let (j, m, o) = some-of ks (i ∷ js) h in any i js j m o
 kept-so (may j) h k = allowed j
 
 wrong-so : {ks : List ℕ} {l : Line} → Kept ks l → (Unmet ks l → ⊥) × (Doubled ks l → ⊥)
 wrong-so (occurred j h) = (λ z. omega arith, λ z. z)
 wrong-so (first i j h z) = (λ u. omega arith, λ d. omega arith)
 wrong-so (second i j z h) = (λ u. omega arith, λ d. omega arith)
+wrong-so {ks} (any i js j m o) = (λ z. let a = absent-all ks j z m in omega arith, λ z. z)
 wrong-so (allowed j) = (λ z. z, λ z. z)
 
 all-kept : {ks : List ℕ} {ls : Row} → Each (λ l. Unmet ks l → ⊥) ls → Each (λ l. Doubled ks l → ⊥) ls → Each (Kept ks) ls
@@ -295,6 +323,7 @@ module _ (row : Row) (xs : List Item) where
   later-of : (l : Line) → Doubled (keysOf xs) l → (x : Item) × Last (λ y. onLine l (y .is) ≡ true) xs x
   later-of (must j) h = absurd h
   later-of (oneOf i j) h = ⊎-elim (λ r. r) (λ e. absurd (let z = none-on i j e in let k = h .0 in omega arith)) (find-last (oneOf i j) xs)
+  later-of (anyOf i js) h = absurd h
   later-of (may j) h = absurd h
 
   abbrev Outcome : Type 0

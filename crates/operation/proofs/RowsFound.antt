@@ -15,6 +15,7 @@ use Rattle.operation.specs.Rows.{Operation, operations}
 use Rattle.operation.specs.Finding.{find, rowed, rowOf}
 use Rattle.operation.specs.Demands.{Rowed, RowFor, listed, unasked, NoRow}
 use Rattle.component.proofs.Deciding.{ask}
+use Rattle.operation.proofs.Lines.{each}
 use Rattle.operation.proofs.Readings.{either-row}
 
 unfoldable fresh : (kind specifier : ℕ) → List Operation → Bool
@@ -28,10 +29,6 @@ distinct (o ∷ os) = fresh (o .kind) (o .specifier) os && distinct os
 all-distinct : distinct operations ≡ true
 unfolding distinct fresh operations
 all-distinct = refl
-
-pub both : (a b : Bool) → (a && b) ≡ true → (a ≡ true) × (b ≡ true)
-both true b e = (refl, e)
-both false b e = absurd (true≢false (sym e))
 
 -- the types that have rows
 decRowed : (kind : ℕ) → Dec (Rowed kind)
@@ -57,8 +54,8 @@ unfolding fresh
 not-this {kind} {specifier} k p {os = o ∷ os} e (List·Memᴰ·head q) =
     let a : kind ≡ o .kind = ap (λ x. x .kind) q in
     let b : specifier ≡ o .specifier = ap (λ x. x .specifier) q in
-    rw (a, b) (not-true _ (both (not (eqb (o .kind) k && eqb (o .specifier) p)) _ e .0))
-not-this k p {os = o ∷ os} e (List·Memᴰ·tail m) = not-this k p (both (not (eqb (o .kind) k && eqb (o .specifier) p)) _ e .1) m
+    rw (a, b) (not-true _ (each (not (eqb (o .kind) k && eqb (o .specifier) p)) _ e .0))
+not-this k p {os = o ∷ os} e (List·Memᴰ·tail m) = not-this k p (each (not (eqb (o .kind) k && eqb (o .specifier) p)) _ e .1) m
 
 module _ (kind specifier : ℕ) (row : Row) where
   abbrev this : Operation
@@ -86,7 +83,7 @@ module _ (kind specifier : ℕ) (row : Row) where
       let b : specifier ≡ o .specifier = ap (λ x. x .specifier) q in
       rw (eq-eqb kind (o .kind) a, eq-eqb specifier (o .specifier) b) (ap (λ x. accepted (x .row)) (sym q))
   find-it (o ∷ os) d (List·Memᴰ·tail m) =
-      let (e, f) = both (fresh (o .kind) (o .specifier) os) _ d in
+      let (e, f) = each (fresh (o .kind) (o .specifier) os) _ d in
       rw (not-this (o .kind) (o .specifier) e m) (find-it os f m)
 
   pub has-row : rowOf kind specifier 0 ≡ accepted row → RowFor kind specifier row

@@ -3,7 +3,7 @@
 use Prim.Native.Nat.{ℕ, zero, suc, _+_, _*_, _/_, _%_, _^_, _<_, _≤_}
 use mathlib.Core.Path.{_≡_, refl, sym, ap, _∙_}
 use mathlib.Core.Bool.{Bool, true, false, _&&_, _||_, not, true≢false, or-assoc}
-use mathlib.Core.List.{List, [], _∷_}
+use mathlib.Core.List.{List, [], _∷_, _++_}
 use lib.ListN.{length, getD, set, replicate, List·getD-eq-default}
 use lib.Seq.{getD-set-same, getD-set-other}
 use lib.Dec.{eqb, ltb}
@@ -12,12 +12,9 @@ use lib.Pow.{pow-lt}
 use native.Mathlib.Omega.{arith}
 use native.Mathlib.Nat.{pow-suc, pow-succ', zero-add, add-zero, add-comm, one-mul, mod-eq-of-lt, div-div-eq-div-mul}
 use Rattle.element.specs.Octets.{if}
-use Rattle.operation.specs.Row.{Row, must, oneOf, may, onLine, named}
-use Rattle.operation.specs.inner.Coded.{bit, holds, Names, keysIn, wordOf, wordsFrom, wordsOf, among, apart}
-
-pub each : (a b : Bool) → (a && b) ≡ true → (a ≡ true) × (b ≡ true)
-each true b e = (refl, e)
-each false b e = (cc, cc)
+use Rattle.operation.specs.Row.{Row, members, among, onLine, named}
+use Rattle.operation.specs.inner.Coded.{bit, holds, Names, keysIn, wordOf, wordsFrom, wordsOf, apart}
+use Rattle.operation.proofs.Lines.{each}
 
 -- ---- the bits of a word, by halves
 
@@ -193,12 +190,15 @@ from ks i zero d h = absurd (omega arith)
 from ks i (suc n) zero h = ap (wordOf ks) (sym (add-zero i))
 from ks i (suc n) (suc d) h = from ks (i + 1) n d (omega arith) ∙ ap (wordOf ks) (omega arith)
 
+either : (js ks : List ℕ) (k : ℕ) → among (js ++ ks) k ≡ (among js k || among ks k)
+unfolding among
+either [] ks k = refl
+either (j ∷ js) ks k = rw (either js ks k) (sym (or-assoc (eqb k j) (among js k) (among ks k)))
+
 names : (row : Row) (k : ℕ) → among (keysIn row) k ≡ named row k
 unfolding keysIn among named onLine
 names [] k = refl
-names (must j ∷ ls) k = rw (names ls k)
-names (oneOf i j ∷ ls) k = rw (names ls k) (sym (or-assoc (eqb k i) (eqb k j) (named ls k)))
-names (may j ∷ ls) k = rw (names ls k)
+names (l ∷ ls) k = rw (either (members l) (keysIn ls) k, names ls k)
 
 pub row-names : (row : Row) {set : List ℕ} → set ≡ wordsOf row (length set) → apart (length set) (keysIn row) ≡ true → Names row set
 unfolding wordsOf holds

@@ -7,19 +7,20 @@ use mathlib.Core.List.{List}
 use lib.ListN.{length}
 use lib.Dec.{eqb}
 use Rattle.element.specs.Answer.{accepted, refused}
-use Rattle.operation.specs.Row.{Row, Item, oneOf, named}
+use Rattle.operation.specs.Row.{Row, Item, oneOf, named, groupLast}
 use Rattle.operation.specs.Judge.{occurs, lastMark, present}
 use Rattle.operation.specs.Finding.{rowOf}
-use Rattle.operation.specs.inner.Coded.{holds, keysIn, wordsOf, apart, mustOf, between, sound, Asks, judgement, verdict, judgedIn}
+use Rattle.operation.specs.inner.Coded.{holds, keysIn, wordsOf, apart, mustOf, groupOf, between, sound, Asks, judgement, verdict, judgedIn}
 use Rattle.operation.specs.inner.Firsts.{onceCounted, repeatIn, Noted, lacking, Walked, Settles}
 use Rattle.operation.specs.declared.Judged as J
 use Rattle.operation.specs.declared.Repeat as R
 use Rattle.operation.specs.declared.Repeat.the-variants as RV
+use Rattle.operation.proofs.Lines.{each}
 use Rattle.operation.proofs.Musts.{by-notes, by-one, by-both}
-use Rattle.operation.proofs.Sets.{each, row-names}
+use Rattle.operation.proofs.Sets.{row-names}
 use Rattle.operation.proofs.Verdicts as Verdict
 
-module _ (row : Row) (list : List ℕ) (one other : ℕ) (seen : List ℕ) (xs : List Item) (asks : Asks row list one other) {noted : R.Repeat} {n : ℕ}
+module _ (row : Row) (list group : List ℕ) (one other : ℕ) (seen : List ℕ) (xs : List Item) (asks : Asks row list group one other) {noted : R.Repeat} {n : ℕ}
     (q : noted ≡ RV.None n) (r : repeatIn noted ≡ onceCounted row xs) (s : Noted noted row seen xs) where
   counted : accepted n ≡ onceCounted row xs
   counted = sym (ap repeatIn q) ∙ r
@@ -27,10 +28,10 @@ module _ (row : Row) (list : List ℕ) (one other : ℕ) (seen : List ℕ) (xs :
   notes : (k : ℕ) → holds seen k ≡ (named row k && occurs k xs)
   notes = subst (λ x. Noted x row seen xs) q s
 
-  pub missing : {d : ℕ} → refused 13 d ≡ lacking list one other seen → refused 13 d ≡ judgement row xs
+  pub missing : {d : ℕ} → refused 13 d ≡ lacking list group one other seen → refused 13 d ≡ judgement row xs
   missing e = Verdict.missing row xs counted (e ∙ by-notes asks seen xs notes)
 
-  module _ (e : accepted tt ≡ lacking list one other seen) where
+  module _ (e : accepted tt ≡ lacking list group one other seen) where
     met : accepted tt ≡ present row xs
     met = e ∙ by-notes asks seen xs notes
 
@@ -49,14 +50,15 @@ module _ (row : Row) (list : List ℕ) (one other : ℕ) (seen : List ℕ) (xs :
     pub not-other : holds seen other ≡ false → accepted n ≡ judgement row xs
     not-other b = fits λ _. ap (λ t. holds seen one && t) b ∙ and-false (holds seen one)
 
--- ---- an arm: the words and the list that it holds are those of the paper's row, and its walk and what settles it judge by that
-pub arm : (kind : ℕ) {specifier k : ℕ} {row : Row} {names list seen : List ℕ} {one other : ℕ} {xs : List Item} {noted : R.Repeat} {r : J.Judged} →
+-- ---- an arm: the words, the list and the group that it holds are those of the paper's row, and its walk and what settles it judge by that
+pub arm : (kind : ℕ) {specifier k : ℕ} {row : Row} {names list group seen : List ℕ} {one other : ℕ} {xs : List Item} {noted : R.Repeat} {r : J.Judged} →
     specifier ≡ k → rowOf kind k 0 ≡ accepted row →
-    names ≡ wordsOf row (length names) → list ≡ mustOf row → sound row (length names) one other ≡ true →
-    Walked noted names seen xs → Settles noted r list one other seen xs → judgedIn r ≡ verdict kind specifier xs
+    names ≡ wordsOf row (length names) → list ≡ mustOf row → group ≡ groupOf row → sound row (length names) one other ≡ true →
+    Walked noted names seen xs → Settles noted r list group one other seen xs → judgedIn r ≡ verdict kind specifier xs
 unfolding sound
-arm kind {row = row} {names = names} {xs = xs} s e w l h walked settles =
+arm kind {row = row} {names = names} {xs = xs} s e w l g h walked settles =
     let (a, b) = each (apart (length names) (keysIn row)) _ h in
-    let (c, d) = each (between _ _ row) _ b in
+    let (f, i) = each (groupLast row) _ b in
+    let (c, d) = each (between _ _ row) _ i in
     let n = row-names row w a in
-    Verdict.found xs kind s e (settles .judged row (record { listed = l; chosen = c; two = d }) (walked .counted row n) (walked .noted row n))
+    Verdict.found xs kind s e (settles .judged row (record { listed = l; grouped = g; last = f; chosen = c; two = d }) (walked .counted row n) (walked .noted row n))

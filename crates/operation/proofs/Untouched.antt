@@ -1,13 +1,13 @@
 -- Newcomers that a row does not name change neither its judgement nor its count.
 use Prim.Native.Nat.{ℕ}
 use mathlib.Core.Path.{_≡_, refl}
-use mathlib.Core.Bool.{Bool, true, false, _&&_, or-true, true≢false}
+use mathlib.Core.Bool.{Bool, true, false, _&&_, true≢false}
 use mathlib.Core.List.{List, [], _∷_}
 use borrow.Author.Tests.{ne-eqb}
-use Rattle.operation.specs.Row.{Row, Line, must, oneOf, may, Item, onLine, named}
+use Rattle.operation.specs.Row.{Row, Line, Item, onLine, named}
 use Rattle.operation.specs.Judge.{occurs, lastMark, once, present, single, judge, countNamed}
 use Rattle.operation.proofs.Newcomers.{Grown, done, kept, newcomer}
-use Rattle.operation.proofs.Lines.{or-false, self}
+use Rattle.operation.proofs.Lines.{or-false, met-same}
 
 -- what the row names occurs in both or in neither
 pub same : {row : Row} {xs ys : List Item} → Grown row xs ys → (k : ℕ) → named row k ≡ true → occurs k ys ≡ occurs k xs
@@ -39,13 +39,12 @@ last-same m (kept x g) = last-same _ g
 last-same m {l} (newcomer x e g) = rw (or-false (onLine l (x .is)) _ e .0) (last-same m g)
 
 lines-same : (row : Row) {xs ys : List Item} → Grown row xs ys → (present row ys ≡ present row xs) × (single row ys ≡ single row xs)
-unfolding named onLine present single
+unfolding named present single
 lines-same [] g = (refl, refl)
-lines-same (must j ∷ ls) g = let (p, s) = lines-same ls (narrow g) in (rw (same g j (rw (self j)), p), s)
-lines-same (oneOf i j ∷ ls) g =
+lines-same (l ∷ ls) {xs} {ys} g =
     let (p, s) = lines-same ls (narrow g) in
-    rw (same g i (rw (self i)), same g j (simp (self j, or-true)), last-same 0 g, p, s) (refl, refl)
-lines-same (may j ∷ ls) g = lines-same ls (narrow g)
+    let (m, d) = met-same xs ys l λ k e. same g k (rw e) in
+    rw (m, d, last-same 0 g, p, s) (refl, refl)
 
 pub untouched : (row : Row) (xs ys : List Item) → Grown row xs ys → judge row ys ≡ judge row xs
 unfolding judge

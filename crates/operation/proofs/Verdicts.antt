@@ -9,7 +9,7 @@ use Rattle.operation.specs.Row.{Row, Item, named}
 use Rattle.operation.specs.Judge.{once, present, single, judge, countNamed}
 use Rattle.operation.specs.Finding.{rowed, rowOf, find}
 use Rattle.operation.specs.Rows.{operations}
-use Rattle.operation.specs.inner.Coded.{judgement, verdict}
+use Rattle.operation.specs.inner.Coded.{judgement, verdict, NoneOf}
 use Rattle.operation.specs.inner.Firsts.{onceCounted}
 
 -- ---- the searches
@@ -47,10 +47,6 @@ module _ (row : Row) (xs : List Item) where
 
 -- ---- the rows
 
-abbrev NoneOf : ℕ → List ℕ → Type 0
-NoneOf n [] = Unit
-NoneOf n (k ∷ ks) = NoneOf n ks × (n ≡ k → ⊥)
-
 -- a row of no line asks for nothing and names nothing
 nothing-again : (seen xs : List Item) → once [] seen xs ≡ accepted tt
 unfolding once named
@@ -74,9 +70,9 @@ module _ (xs : List Item) where
   unfolding verdict
   none kind specifier e = rw e
 
-  pub no-invoke : {specifier : ℕ} → NoneOf specifier (101 ∷ 37 ∷ 32 ∷ 15 ∷ 13 ∷ 4 ∷ []) → refused 11 0 ≡ verdict 0xE9 specifier xs
+  pub no-invoke : {specifier : ℕ} → NoneOf specifier (37 ∷ 15 ∷ 13 ∷ 4 ∷ []) → NoneOf specifier (101 ∷ 32 ∷ []) → refused 11 0 ≡ verdict 0xE9 specifier xs
   unfolding rowOf rowed find operations
-  no-invoke ((((((_, a), b), c), d), e), f) = none 0xE9 _ (simp ne-eqb)
+  no-invoke ((((_, a), b), c), d) ((_, e), f) = none 0xE9 _ (simp ne-eqb)
 
   pub no-result : {specifier : ℕ} → NoneOf specifier (101 ∷ 64 ∷ 26 ∷ 14 ∷ 13 ∷ 4 ∷ []) → refused 11 0 ≡ verdict 0xEA specifier xs
   unfolding rowOf rowed find operations

@@ -3,7 +3,7 @@ use Prim.Native.Nat.{ℕ, _≤_}
 use mathlib.Core.Path.{_≡_}
 use mathlib.Core.Bool.{true, false}
 use mathlib.Core.List.{List, _∷_, _++_, map}
-use Rattle.operation.specs.Row.{Row, Line, must, oneOf, may, Item, numberOf, onLine, named, repeats}
+use Rattle.operation.specs.Row.{Row, Line, must, oneOf, anyOf, may, asks, Item, onLine, named, repeats}
 use Rattle.operation.specs.Book.{times, Each, Once}
 
 abbrev pub keysOf : List Item → List ℕ
@@ -19,21 +19,18 @@ pub data Last {A : Type 0} (P : A → Type 0) : List A → A → Type 0 where
   later : {x y : A} {xs : List A} → Last P xs x → Last P (y ∷ xs) x
 
 -- ---- what a row asks of the keys of a run
--- nothing meets the line, which asks for this number
+-- nothing meets the line
 abbrev pub Unmet : List ℕ → Line → Type 0
 Unmet ks (must j) = times j ks ≡ 0
 Unmet ks (oneOf i j) = (times i ks ≡ 0) × (times j ks ≡ 0)
+Unmet ks (anyOf i js) = Each (λ j. times j ks ≡ 0) (i ∷ js)
 Unmet ks (may j) = ⊥
-
-abbrev pub asks : Line → ℕ
-asks (must j) = numberOf j
-asks (oneOf i j) = numberOf i
-asks (may j) = numberOf j
 
 -- both members of a choice occur
 abbrev pub Doubled : List ℕ → Line → Type 0
 Doubled ks (must j) = ⊥
 Doubled ks (oneOf i j) = (1 ≤ times i ks) × (1 ≤ times j ks)
+Doubled ks (anyOf i js) = ⊥
 Doubled ks (may j) = ⊥
 
 pub data RowFault (row : Row) (xs : List Item) : (number detail : ℕ) → Type 0 where

@@ -1,15 +1,19 @@
 -- How a row judges a run of parameters: 12, 13 and 14 in their order.
 use Prim.Native.Nat.{ℕ, _+_}
-use mathlib.Core.Bool.{Bool, false, _&&_, _||_, not}
+use mathlib.Core.Bool.{Bool, true, false, _&&_, _||_, not}
 use mathlib.Core.List.{List, [], _∷_}
 use lib.Dec.{eqb}
 use Rattle.element.specs.Octets.{if}
 use Rattle.element.specs.Answer.{Answer, accepted, refused, _>>=_, _>>_, check}
-use Rattle.operation.specs.Row.{numberOf, Line, must, oneOf, may, Row, onLine, named, repeats, Item}
+use Rattle.operation.specs.Row.{Line, must, oneOf, anyOf, may, asks, Row, onLine, named, repeats, Item}
 
 unfoldable pub occurs : ℕ → List Item → Bool
 occurs k [] = false
 occurs k (x ∷ xs) = eqb (x .is) k || occurs k xs
+
+unfoldable pub anyOccurs : List ℕ → List Item → Bool
+anyOccurs [] xs = false
+anyOccurs (k ∷ ks) xs = occurs k xs || anyOccurs ks xs
 
 -- the mark of the last item on a line
 unfoldable pub lastMark : Line → (sofar : ℕ) → List Item → ℕ
@@ -24,18 +28,26 @@ once row seen (x ∷ xs) = do
   once row (x ∷ seen) xs
 
 -- 13: what must occur does
+unfoldable pub met : Line → List Item → Bool
+met (must j) xs = occurs j xs
+met (oneOf i j) xs = occurs i xs || occurs j xs
+met (anyOf i js) xs = anyOccurs (i ∷ js) xs
+met (may j) xs = true
+
 unfoldable pub present : Row → List Item → Answer Unit
 present [] xs = accepted tt
-present (must j ∷ ls) xs = check (occurs j xs) 13 (numberOf j) >> present ls xs
-present (oneOf i j ∷ ls) xs = check (occurs i xs || occurs j xs) 13 (numberOf i) >> present ls xs
-present (may j ∷ ls) xs = present ls xs
+present (l ∷ ls) xs = check (met l xs) 13 (asks l) >> present ls xs
 
 -- 14: of a choice, not both
+unfoldable pub doubled : Line → List Item → Bool
+doubled (must j) xs = false
+doubled (oneOf i j) xs = occurs i xs && occurs j xs
+doubled (anyOf i js) xs = false
+doubled (may j) xs = false
+
 unfoldable pub single : Row → List Item → Answer Unit
 single [] xs = accepted tt
-single (must j ∷ ls) xs = single ls xs
-single (oneOf i j ∷ ls) xs = check (not (occurs i xs && occurs j xs)) 14 (lastMark (oneOf i j) 0 xs) >> single ls xs
-single (may j ∷ ls) xs = single ls xs
+single (l ∷ ls) xs = check (not (doubled l xs)) 14 (lastMark l 0 xs) >> single ls xs
 
 unfoldable pub judge : Row → List Item → Answer Unit
 judge row xs = once row [] xs >> present row xs >> single row xs

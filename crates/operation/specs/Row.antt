@@ -1,6 +1,6 @@
 -- A row of the paper, and what it sees of a run of parameters. Nothing here knows which rows there are.
 use Prim.Native.Nat.{ℕ, _+_, _*_, _/_}
-use mathlib.Core.Bool.{Bool, false, _||_}
+use mathlib.Core.Bool.{Bool, true, false, _||_}
 use mathlib.Core.List.{List, [], _∷_}
 use lib.Dec.{eqb}
 
@@ -13,20 +13,53 @@ numberOf k = k / 2
 
 pub data Line : Type 0 where
   must : ℕ → Line
+  -- a choice: one of the two, and not both
   oneOf : ℕ → ℕ → Line
+  -- a group: at least one of its members, the first and the others
+  anyOf : ℕ → List ℕ → Line
   may : ℕ → Line
 
 abbrev pub Row : Type 0
 Row = List Line
 
+unfoldable pub members : Line → List ℕ
+members (must j) = j ∷ []
+members (oneOf i j) = i ∷ j ∷ []
+members (anyOf i js) = i ∷ js
+members (may j) = j ∷ []
+
+unfoldable pub among : List ℕ → ℕ → Bool
+among [] k = false
+among (j ∷ js) k = eqb k j || among js k
+
 unfoldable pub onLine : Line → ℕ → Bool
-onLine (must j) k = eqb k j
-onLine (oneOf i j) k = eqb k i || eqb k j
-onLine (may j) k = eqb k j
+onLine l k = among (members l) k
+
+-- the number by which 13 asks for a line: its first member's
+unfoldable pub asks : Line → ℕ
+asks (must j) = numberOf j
+asks (oneOf i j) = numberOf i
+asks (anyOf i js) = numberOf i
+asks (may j) = numberOf j
 
 unfoldable pub named : Row → ℕ → Bool
 named [] k = false
 named (l ∷ ls) k = onLine l k || named ls k
+
+-- behind its group a row asks for nothing more
+unfoldable pub asksNothing : Row → Bool
+asksNothing [] = true
+asksNothing (must j ∷ ls) = false
+asksNothing (oneOf i j ∷ ls) = false
+asksNothing (anyOf i js ∷ ls) = false
+asksNothing (may j ∷ ls) = asksNothing ls
+
+unfoldable pub groupLast : Row → Bool
+groupLast [] = true
+groupLast (must j ∷ ls) = groupLast ls
+groupLast (oneOf i j ∷ ls) = groupLast ls
+groupLast (anyOf i js ∷ ls) = asksNothing ls
+groupLast (may j ∷ ls) = groupLast ls
 
 -- Digits alone may repeat
 unfoldable pub repeats : ℕ → Bool

@@ -12,7 +12,7 @@ ghost use Rattle.component.specs.Table.{width};
 ghost use Rattle.operation.specs.Row.{oneOf};
 ghost use Rattle.operation.specs.Judge.{lastMark};
 ghost use Rattle.operation.specs.inner.Coded.{holds, itemAt, itemsFrom};
-ghost use Rattle.operation.specs.inner.Firsts.{missingIn, lacking, Walked, Settles};
+ghost use Rattle.operation.specs.inner.Firsts.{missingIn, lackingAll, lacking, Walked, Settles};
 
 // ---- a set of keys, and an entry of a table
 
@@ -106,14 +106,37 @@ pub(crate) fn note(names: &[u64], table: &[u16], count: usize) -> Notes
     Notes { repeat, seen }
 }
 
-// 13: the first that must occur and was not noted. Of a choice `one` stands in the list, and the other will do.
-fn first_missing(must: &[u16], one: u64, other: u64, seen: &[u64]) -> Missing
-    ensures { λ r. ⌜ missingIn r ≡ lacking (now (must .entry)) one other (now (seen .entry)) ⌝ }
+// 13 of a group, of which one must have been noted: it gives the first. No members are no group.
+fn group_missing(group: &[u16], seen: &[u64]) -> Missing
+    ensures { λ r. ⌜ missingIn r ≡ lackingAll (now (group .entry)) (now (seen .entry)) ⌝ }
+{
+    if group.len() == 0 {
+        return Missing::None;
+    }
+    let mut at: usize = 0;
+    let answer = 'members: loop {
+        if group.len() <= at {
+            break 'members Missing::Number(group[0] / 2);
+        }
+        let next = at + 1;
+        let key = wide(group[at]);
+        if has(seen, key) {
+            break 'members Missing::None;
+        }
+        at = next;
+    };
+    answer
+}
+
+// 13: the first that must occur and was not noted, and behind these the group. Of a choice `one` stands in the list, and
+// the other will do.
+fn first_missing(must: &[u16], group: &[u16], one: u64, other: u64, seen: &[u64]) -> Missing
+    ensures { λ r. ⌜ missingIn r ≡ lacking (now (must .entry)) (now (group .entry)) one other (now (seen .entry)) ⌝ }
 {
     let mut at: usize = 0;
     let answer = 'names: loop {
         if must.len() <= at {
-            break 'names Missing::None;
+            break 'names group_missing(group, seen);
         }
         let next = at + 1;
         let key = wide(must[at]);
@@ -134,6 +157,7 @@ fn first_missing(must: &[u16], one: u64, other: u64, seen: &[u64]) -> Missing
 // by them the compiler sees what an arm does not need, and unrolls the rest there.
 pub(crate) fn settle(
     must: &[u16],
+    group: &[u16],
     one: u64,
     other: u64,
     table: &[u16],
@@ -141,14 +165,14 @@ pub(crate) fn settle(
     notes: Notes,
 ) -> Judged
     requires { ⌜ (width * count ≤ length (now table)) × (count ≤ 64) ⌝ }
-    ensures { λ r. ⌜ Settles (notes .repeat) r (now (must .entry)) one other (notes .seen)
+    ensures { λ r. ⌜ Settles (notes .repeat) r (now (must .entry)) (now (group .entry)) one other (notes .seen)
         (itemsFrom (now (table .entry)) 0 count) ⌝ }
 {
     let seen = notes.seen;
     let repeat = notes.repeat;
     match repeat {
         Repeat::At(entry) => Judged::Again(entry),
-        Repeat::None { named } => match first_missing(must, one, other, &seen) {
+        Repeat::None { named } => match first_missing(must, group, one, other, &seen) {
             Missing::Number(number) => Judged::Missing(number),
             Missing::None => {
                 if one != other {

@@ -44,4 +44,6 @@ pub(crate) const SMS_CAUSE_CODE: u64 = 1 << (rows::SMS_CAUSE_CODE % 64);
 
 // ---- word 7: numbers 224 to 255
 
+pub(crate) const NETWORK_TMSI: u64 = 1 << (rows::NETWORK_TMSI % 64);
+
 pub(crate) const IMSI: u64 = 1 << (rows::IMSI % 64);

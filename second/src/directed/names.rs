@@ -1,6 +1,7 @@
 //! Which parameters a row names, and which row it is.
 
-use super::lists::{all, holding, leaving_out, mandatory, with, List};
+use super::lists::{all, holding, leaving_out, line_of, mandatory, primitives};
+use super::lists::{twins, with, List};
 use super::{draft, draft_of, nameless, of_type, Case};
 use crate::generate::draft::Element;
 use crate::generate::{Subject, REGISTER};
@@ -9,14 +10,14 @@ use crate::rows::{Identifier, Row, ROWS};
 use crate::types::{self, ERROR, INVOKE, REJECT, RESULT};
 
 pub fn lists(row: &Row) -> Vec<List> {
-    let questions = [twins, register, others, alike];
+    let questions = [other_form, register, others, alike];
     let lists = questions.iter().flat_map(|question| question(row));
     lists.collect()
 }
 
 /// The constructor twin does not stand for a named one and does not repeat it.
-fn twins(row: &Row) -> Vec<List> {
-    let mut lists = vec![all(row).iter().map(|one| one.twin()).collect()];
+fn other_form(row: &Row) -> Vec<List> {
+    let mut lists = vec![twins(&all(row))];
     for one in all(row) {
         let list = holding(row, one);
         let instead = |member: &Identifier| if *member == one { one.twin() } else { *member };
@@ -52,16 +53,17 @@ fn register(row: &Row) -> Vec<List> {
     REGISTER.iter().map(list).collect()
 }
 
-/// Numbers that agree with a named one in their low bits, beside it and in
-/// place of it.
+/// Numbers that agree with a named one in their low bits, the last seven of
+/// them alone too: beside it and in place of its line.
 fn alike(row: &Row) -> Vec<List> {
     let mut lists = Vec::new();
     for one in all(row) {
-        let far = [32, 128, 256, 1024, 8192].map(|more| Identifier::primitive(one.number + more));
+        let far = [32, 128, 256, 1024, 8192].map(|more| one.number + more);
+        let far = primitives(&[&far[..], &[one.number % 128]].concat());
         let others: List = far.into_iter().filter(|far| !row.names(*far)).collect();
         let list = holding(row, one);
         lists.push(with(&others, &list));
-        lists.push(with(&others, &leaving_out(&list, one)));
+        lists.push(with(&others, &leaving_out(&list, &line_of(row, one))));
     }
     lists
 }

@@ -1,6 +1,7 @@
 //! What a row is asked: 12, 13 and 14, for each line of each row.
 
-use super::lists::{all, backwards, holding, leaving_out, mandatory, members, with, without, List};
+use super::lists::{all, backwards, holding, leaving_out, lines, mandatory, orders, primitives};
+use super::lists::{twins, with, without, List};
 use crate::rows::Row;
 
 pub fn lists(row: &Row) -> Vec<List> {
@@ -9,7 +10,9 @@ pub fn lists(row: &Row) -> Vec<List> {
         missing,
         repeated,
         repeats,
-        choices,
+        alternatives,
+        groups,
+        twins_of_group,
         repeated_and_missing,
         both_and_more,
     ];
@@ -25,12 +28,14 @@ fn taken(row: &Row) -> Vec<List> {
 /// Each line alone, and each with each later one; the latter also backwards
 /// and with what else the row names.
 fn missing(row: &Row) -> Vec<List> {
+    let lines = lines(row);
     let mut lists = Vec::new();
-    for first in 0..row.must.len() {
-        lists.push(without(&mandatory(row), first));
-        for later in first + 1..row.must.len() {
-            lists.push(without(&without(&mandatory(row), later), first));
-            lists.push(backwards(&without(&without(&all(row), later), first)));
+    for (index, first) in lines.iter().enumerate() {
+        lists.push(leaving_out(&mandatory(row), first));
+        for later in &lines[index + 1..] {
+            let both = with(first, later);
+            lists.push(leaving_out(&mandatory(row), &both));
+            lists.push(backwards(&leaving_out(&all(row), &both)));
         }
     }
     lists
@@ -54,7 +59,7 @@ fn repeats(row: &Row) -> Vec<List> {
     let mut lists = Vec::new();
     for pair in all(row).windows(2) {
         let (one, other) = (pair[0], pair[1]);
-        let rest = leaving_out(&leaving_out(&mandatory(row), one), other);
+        let rest = leaving_out(&mandatory(row), pair);
         lists.push([&[one, other], &rest[..], &[one, other]].concat());
         lists.push([&[one, other], &rest[..], &[other, one]].concat());
         lists.push([&[one, other, one], &rest[..], &[other]].concat());
@@ -64,15 +69,15 @@ fn repeats(row: &Row) -> Vec<List> {
 
 /// Each member alone and each two in both orders, with others behind, around
 /// and before.
-fn choices(row: &Row) -> Vec<List> {
+fn alternatives(row: &Row) -> Vec<List> {
     let mut lists = Vec::new();
-    for (index, must) in row.must.iter().enumerate() {
+    for (index, line) in lines(row).iter().enumerate() {
         let rest = without(&mandatory(row), index);
-        for one in members(must) {
+        for one in line.iter().copied() {
             lists.push(with(&rest, &[one]));
             lists.push(with(&[one], &rest));
             lists.push([&[one], &rest[..], &[one]].concat());
-            for other in members(must).into_iter().filter(|other| *other != one) {
+            for other in leaving_out(line, &[one]) {
                 lists.push(with(&[one, other], &rest));
                 lists.push([&[one], &rest[..], &[other]].concat());
                 lists.push(with(&rest, &[one, other]));
@@ -84,13 +89,46 @@ fn choices(row: &Row) -> Vec<List> {
     lists
 }
 
+/// What is mandatory beside the group.
+fn beside_group(row: &Row) -> List {
+    leaving_out(&mandatory(row), &primitives(row.group))
+}
+
+/// All members of a group in every order, before the others, behind, and on
+/// both sides.
+fn groups(row: &Row) -> Vec<List> {
+    let rest = beside_group(row);
+    let mut lists = Vec::new();
+    for order in orders(&primitives(row.group)) {
+        lists.push(with(&order, &rest));
+        lists.push(with(&rest, &order));
+        let (before, behind) = order.split_at(order.len() / 2);
+        lists.push([before, &rest, behind].concat());
+    }
+    lists
+}
+
+/// The twin of each member, and of all of them, where no member occurs: with
+/// all that is mandatory beside it, and without one of them.
+fn twins_of_group(row: &Row) -> Vec<List> {
+    let rest = beside_group(row);
+    let all = twins(&primitives(row.group));
+    let mut lists = Vec::new();
+    for twins in all.chunks(1).chain([&all[..]]) {
+        lists.push(with(&rest, twins));
+        lists.push(with(twins, &rest));
+        lists.extend((0..rest.len()).map(|index| with(&without(&rest, index), twins)));
+    }
+    lists
+}
+
 /// 12 before 13: each line is missing once, each named one repeated.
 fn repeated_and_missing(row: &Row) -> Vec<List> {
     let mut lists = Vec::new();
     for (index, one) in all(row).into_iter().enumerate() {
         for line in [0, index + 1] {
             let mut list = holding(row, one);
-            if line < row.must.len() && list[line] != one {
+            if line < mandatory(row).len() && list[line] != one {
                 list.remove(line);
                 lists.push(with(&list, &[one]));
             }
@@ -99,12 +137,13 @@ fn repeated_and_missing(row: &Row) -> Vec<List> {
     lists
 }
 
-/// 12 and 13 before 14, in a row with a choice.
+/// 12 and 13 before 14, in a row with a choice; 12 and 13 with all members of
+/// a group.
 fn both_and_more(row: &Row) -> Vec<List> {
-    let both: List = row.must.iter().flat_map(members).collect();
+    let both = lines(row).concat();
     let mut lists = Vec::new();
     for one in &both {
-        lists.push(leaving_out(&both, *one));
+        lists.push(leaving_out(&both, &[*one]));
         lists.push(with(&both, &[*one]));
         lists.push(with(&[*one], &both));
     }

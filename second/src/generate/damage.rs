@@ -2,14 +2,15 @@
 //! and is not.
 
 use super::draft::{element, identifier, Draft, Element, Form, Length};
-use super::{choice_members, draw_kind, draw_named, draw_other, draw_rowless, NUMBERS};
+use super::{draw_kind, draw_named, draw_other, draw_rowless, members, NUMBERS};
 use crate::random::Random;
+use crate::rows::Row;
 use crate::types::{self, INVOKE};
 
 type Damage = fn(&mut Random, &mut Draft);
 
 /// Some stand more than once to be met more often.
-const DAMAGES: [Damage; 47] = [
+const DAMAGES: [Damage; 52] = [
     wrong_type,
     swapped_type,
     no_id,
@@ -23,6 +24,7 @@ const DAMAGES: [Damage; 47] = [
     wrong_code_length,
     wrong_code_length,
     wrong_code_field,
+    cut_at_code,
     cut_at_code,
     wrong_family,
     no_set,
@@ -51,10 +53,14 @@ const DAMAGES: [Damage; 47] = [
     repeat_any,
     repeat_any,
     repeat_any,
+    repeat_any,
     drop_one,
     drop_one,
     drop_one,
-    both_of_choice,
+    every_member,
+    no_member,
+    no_member,
+    twins_of_members,
     all_empty,
     empty_set,
 ];
@@ -369,16 +375,38 @@ fn drop_one(random: &mut Random, draft: &mut Draft) {
     }
 }
 
-/// Adds the members that do not occur; a row without a choice gets the two
-/// numbers of the one that has it where it does not name them.
-pub fn both_of_choice(random: &mut Random, draft: &mut Draft) {
-    let (first, second) = choice_members(draft.row).unwrap_or((8, 242));
-    for number in [first, second] {
-        let octets = identifier(number, false);
+/// Adds the members of a choice (14) or of a group that do not occur.
+pub fn every_member(random: &mut Random, draft: &mut Draft) {
+    for number in members(draft.row) {
+        let octets = identifier(*number, false);
         if !draft.parameters.iter().any(|one| one.identifier == octets) {
-            let drawn = draw_named(random, number);
+            let drawn = draw_named(random, *number);
             let member = element(random, drawn);
             insert(random, draft, member);
+        }
+    }
+}
+
+fn is_member(row: &Row, octets: &[u8]) -> bool {
+    let mut members = members(row).iter();
+    members.any(|number| identifier(*number, false) == octets)
+}
+
+/// Without any of them (13), and at times without another, which may be asked
+/// for earlier.
+fn no_member(random: &mut Random, draft: &mut Draft) {
+    let row = draft.row;
+    let kept = |one: &Element| !is_member(row, &one.identifier);
+    draft.parameters.retain(kept);
+    if random.percent(40) {
+        drop_one(random, draft);
+    }
+}
+
+fn twins_of_members(_: &mut Random, draft: &mut Draft) {
+    for one in &mut draft.parameters {
+        if is_member(draft.row, &one.identifier) {
+            one.identifier[0] ^= 0x20;
         }
     }
 }

@@ -166,7 +166,7 @@ fn wide_parameter(random: &mut Random) -> (Vec<u8>, u8) {
 fn doubled_choice(random: &mut Random) -> (Vec<u8>, u8) {
     let row = rows::find(INVOKE, 13).expect("the row with a choice");
     let mut draft = Draft::valid(random, Subject::of_row(row));
-    damage::both_of_choice(random, &mut draft);
+    damage::every_member(random, &mut draft);
     if random.percent(30) {
         damage::apply(random, &mut draft);
     }

@@ -1,7 +1,7 @@
 //! Whole cases for the writer.
 
-use super::{choice_members, draw_id_count, draw_named, draw_other, draw_parameters};
-use super::{draw_rowless, draw_subject, read_case, Drawn, Subject, FILLER};
+use super::{draw_id_count, draw_named, draw_other, draw_parameters, draw_rowless};
+use super::{draw_subject, members, read_case, Drawn, Subject, FILLER};
 use crate::random::Random;
 use crate::reader::{self, Accepted, ENTRY_NUMBERS, TABLE_NUMBERS};
 use crate::rows::Row;
@@ -43,7 +43,7 @@ struct Draft {
 type Damage = fn(&mut Random, &mut Draft);
 
 /// Some stand more than once to be met more often.
-const DAMAGES: [Damage; 31] = [
+const DAMAGES: [Damage; 35] = [
     wrong_type,
     wrong_id_count,
     wrong_id_count,
@@ -66,13 +66,17 @@ const DAMAGES: [Damage; 31] = [
     repeat_any,
     repeat_any,
     repeat_any,
+    repeat_any,
     drop_one,
     drop_one,
     drop_one,
     twin_instead,
-    both_of_choice,
-    both_of_choice,
-    both_of_choice,
+    every_member,
+    every_member,
+    every_member,
+    no_member,
+    no_member,
+    twins_of_members,
     overlapping,
     crowd,
 ];
@@ -435,14 +439,36 @@ fn twin_instead(random: &mut Random, draft: &mut Draft) {
     }
 }
 
-fn both_of_choice(random: &mut Random, draft: &mut Draft) {
-    let (first, second) = choice_members(draft.row).unwrap_or((8, 242));
-    for number in [first, second] {
-        if !draft.list.iter().any(|one| one[0] == number && one[1] == 0) {
-            let drawn = draw_named(random, number);
+/// Adds the members of a choice (14) or of a group that do not occur.
+fn every_member(random: &mut Random, draft: &mut Draft) {
+    for number in members(draft.row) {
+        if !draft.list.iter().any(|one| one[..2] == [*number, 0]) {
+            let drawn = draw_named(random, *number);
             draft.append(random, drawn);
             let entry = draft.list.pop().expect("just put there");
             insert(random, draft, entry);
+        }
+    }
+}
+
+fn is_member(row: &Row, entry: &Entry) -> bool {
+    entry[1] == 0 && members(row).contains(&entry[0])
+}
+
+/// Without any of them (13), and at times without another, which may be asked
+/// for earlier.
+fn no_member(random: &mut Random, draft: &mut Draft) {
+    let row = draft.row;
+    draft.list.retain(|one| !is_member(row, one));
+    if random.percent(40) {
+        drop_one(random, draft);
+    }
+}
+
+fn twins_of_members(_: &mut Random, draft: &mut Draft) {
+    for one in &mut draft.list {
+        if is_member(draft.row, one) {
+            one[1] = 1;
         }
     }
 }

@@ -3,7 +3,7 @@
 use Prim.Native.Nat.{ℕ, zero, suc, _+_, _*_, _/_, _%_, _^_}
 use mathlib.Core.Path.{_≡_}
 use mathlib.Core.Bool.{Bool, true, false, _&&_, _||_, not}
-use mathlib.Core.List.{List, [], _∷_}
+use mathlib.Core.List.{List, [], _∷_, _++_}
 use lib.ListN.{length, getD}
 use lib.Dec.{leb, eqb, ltb}
 use Rattle.element.specs.Octets.{if}
@@ -12,7 +12,7 @@ use Rattle.component.specs.Table.{width, held}
 use Rattle.operation.specs.Judge.{judge, countNamed}
 use Rattle.operation.specs.declared.Judged as J
 use Rattle.operation.specs.declared.Judged.the-variants as JV
-use Rattle.operation.specs.Row.{Row, must, oneOf, may, Item, key, named}
+use Rattle.operation.specs.Row.{Row, must, oneOf, anyOf, may, Item, key, members, among, named, groupLast}
 use Rattle.operation.specs.Finding.{rowOf}
 
 -- ---- what a row names, as a set of keys: one bit for each, 64 to a word; a key beyond the words is not in it
@@ -27,9 +27,7 @@ Names row set = (k : ℕ) → holds set k ≡ named row k
 
 unfoldable pub keysIn : Row → List ℕ
 keysIn [] = []
-keysIn (must j ∷ ls) = j ∷ keysIn ls
-keysIn (oneOf i j ∷ ls) = i ∷ j ∷ keysIn ls
-keysIn (may j ∷ ls) = j ∷ keysIn ls
+keysIn (l ∷ ls) = members l ++ keysIn ls
 
 unfoldable pub wordOf : List ℕ → (i : ℕ) → ℕ
 wordOf [] i = 0
@@ -44,10 +42,6 @@ unfoldable pub wordsOf : Row → (n : ℕ) → List ℕ
 wordsOf row n = wordsFrom (keysIn row) 0 n
 
 -- no key twice, and none beyond `n` words: else the sums are not the row's
-unfoldable pub among : List ℕ → ℕ → Bool
-among [] k = false
-among (j ∷ js) k = eqb k j || among js k
-
 unfoldable pub apart : (n : ℕ) → List ℕ → Bool
 apart n [] = true
 apart n (k ∷ ks) = (ltb (k / 64) n && not (among ks k)) && apart n ks
@@ -57,29 +51,43 @@ unfoldable pub mustOf : Row → List ℕ
 mustOf [] = []
 mustOf (must j ∷ ls) = j ∷ mustOf ls
 mustOf (oneOf i j ∷ ls) = i ∷ mustOf ls
+mustOf (anyOf i js ∷ ls) = mustOf ls
 mustOf (may j ∷ ls) = mustOf ls
+
+-- the members of its group; none: of no group
+unfoldable pub groupOf : Row → List ℕ
+groupOf [] = []
+groupOf (must j ∷ ls) = groupOf ls
+groupOf (oneOf i j ∷ ls) = groupOf ls
+groupOf (anyOf i js ∷ ls) = i ∷ js
+groupOf (may j ∷ ls) = groupOf ls
 
 -- each choice is between these two, and where they are two no other line asks for the first
 unfoldable pub between : (one other : ℕ) → Row → Bool
 between one other [] = true
 between one other (must j ∷ ls) = (eqb one other || not (eqb j one)) && between one other ls
 between one other (oneOf i j ∷ ls) = (not (eqb one other) && (eqb i one && eqb j other)) && between one other ls
+between one other (anyOf i js ∷ ls) = between one other ls
 between one other (may j ∷ ls) = between one other ls
 
 unfoldable pub choice : Row → Bool
 choice [] = false
 choice (must j ∷ ls) = choice ls
 choice (oneOf i j ∷ ls) = true
+choice (anyOf i js ∷ ls) = choice ls
 choice (may j ∷ ls) = choice ls
 
-pub record Asks (row : Row) (list : List ℕ) (one other : ℕ) : Type 0 where
+pub record Asks (row : Row) (list group : List ℕ) (one other : ℕ) : Type 0 where
   pub listed : list ≡ mustOf row
+  pub grouped : group ≡ groupOf row
+  pub last : groupLast row ≡ true
   pub chosen : between one other row ≡ true
   pub two : (eqb one other || choice row) ≡ true
 
--- what `n` words and a choice must be to say what the row does
+-- what `n` words, a group and a choice must be to say what the row does
 unfoldable pub sound : Row → (n one other : ℕ) → Bool
-sound row n one other = apart n (keysIn row) && (between one other row && (eqb one other || choice row))
+sound row n one other =
+    apart n (keysIn row) && (groupLast row && (between one other row && (eqb one other || choice row)))
 
 -- ---- a run of parameters
 -- the item of entry `i`, marked by `i`
@@ -102,6 +110,11 @@ unfoldable pub verdict : (kind specifier : ℕ) → List Item → Answer ℕ
 verdict kind specifier xs = do
   row ← rowOf kind specifier 0
   judgement row xs
+
+-- a number that is none of these
+abbrev pub NoneOf : ℕ → List ℕ → Type 0
+NoneOf n [] = Unit
+NoneOf n (k ∷ ks) = NoneOf n ks × (n ≡ k → ⊥)
 
 -- what each case of the engine's answer says
 abbrev pub judgedIn : J.Judged → Answer ℕ

@@ -1,7 +1,7 @@
 -- What the engine's searches for a first fault answer: the fault's number and where it is, else what comes of the run.
 use Prim.Native.Nat.{ℕ}
 use mathlib.Core.Path.{_≡_}
-use mathlib.Core.Bool.{_&&_, _||_}
+use mathlib.Core.Bool.{Bool, false, _&&_, _||_}
 use mathlib.Core.List.{List, [], _∷_}
 use lib.Dec.{eqb}
 use Rattle.element.specs.Answer.{Answer, accepted, refused, _>>=_, _>>_, check}
@@ -34,19 +34,27 @@ pub record Walked (r : R.Repeat) (names seen : List ℕ) (xs : List Item) : Type
   pub counted : (row : Row) → Names row names → repeatIn r ≡ onceCounted row xs
   pub noted : (row : Row) → Names row names → Noted r row seen xs
 
--- 13 by what was noted
-unfoldable pub lacking : (list : List ℕ) (one other : ℕ) (seen : List ℕ) → Answer Unit
-lacking [] one other seen = accepted tt
-lacking (k ∷ ks) one other seen = do
+-- 13 by what was noted: of a group where none of it was, then of what must occur, and the group behind it
+unfoldable pub anyHeld : (seen ks : List ℕ) → Bool
+anyHeld seen [] = false
+anyHeld seen (k ∷ ks) = holds seen k || anyHeld seen ks
+
+unfoldable pub lackingAll : (group seen : List ℕ) → Answer Unit
+lackingAll [] seen = accepted tt
+lackingAll (k ∷ ks) seen = check (anyHeld seen (k ∷ ks)) 13 (numberOf k)
+
+unfoldable pub lacking : (list group : List ℕ) (one other : ℕ) (seen : List ℕ) → Answer Unit
+lacking [] group one other seen = lackingAll group seen
+lacking (k ∷ ks) group one other seen = do
   check (holds seen k || (eqb k one && holds seen other)) 13 (numberOf k)
-  lacking ks one other seen
+  lacking ks group one other seen
 
 abbrev pub missingIn : M.Missing → Answer Unit
 missingIn MV.None = accepted tt
 missingIn (MV.Number number) = refused 13 number
 
 -- 13 and 14 behind a walk, at any row that asks for what the list holds
-pub record Settles (noted : R.Repeat) (r : J.Judged) (list : List ℕ) (one other : ℕ) (seen : List ℕ) (xs : List Item)
-    : Type 0 where
-  pub judged : (row : Row) → Asks row list one other → repeatIn noted ≡ onceCounted row xs → Noted noted row seen xs →
+pub record Settles (noted : R.Repeat) (r : J.Judged) (list group : List ℕ) (one other : ℕ) (seen : List ℕ)
+    (xs : List Item) : Type 0 where
+  pub judged : (row : Row) → Asks row list group one other → repeatIn noted ≡ onceCounted row xs → Noted noted row seen xs →
       judgedIn r ≡ judgement row xs

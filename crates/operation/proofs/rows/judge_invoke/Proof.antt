@@ -1,59 +1,46 @@
--- `operation::judge_invoke` meets its contract: what each arm holds is computed to be the paper's row for an invoke, and where no arm has one the
--- paper has none.
+-- `operation::judge_invoke` meets its contract: what each arm holds is computed to be the paper's row for an invoke; the others are `judge_page`'s.
 -- Assumes nothing.
 use mathlib.Core.Path.{refl}
 use borrow.Author.Needs.{needs}
-use Rattle.operation.specs.Row.{key}
+use Rattle.operation.specs.Row.{key, members, among, asksNothing, groupLast}
 use Rattle.operation.specs.Finding.{rowed, rowOf, find}
 use Rattle.operation.specs.Rows.{operations}
-use Rattle.operation.specs.inner.Coded.{keysIn, wordOf, wordsFrom, wordsOf, among, apart, mustOf, between, choice, sound}
+use Rattle.operation.specs.inner.Coded.{keysIn, wordOf, wordsFrom, wordsOf, apart, mustOf, groupOf, between, choice, sound}
 use Rattle.operation.proofs.Settling.{arm}
-use Rattle.operation.proofs.Verdicts.{no-invoke}
 use Rattle.operation.proofs.rows.judge_invoke.Statement.{statement}
 use Rattle.operation.proofs.rows.judge_invoke.Tie as tie
 
 returns : tie.Need-returns
-unfolding rowOf rowed find operations key keysIn wordOf wordsFrom wordsOf among apart mustOf between choice sound
-returns c = arm 0xE9 (c .before .before .before .before .match .keys1) refl refl refl refl (c .before .note .ensures) (c .settle .ensures)
+unfolding rowOf rowed find operations key members keysIn wordOf wordsFrom wordsOf among apart mustOf groupOf asksNothing groupLast between choice sound
+returns c = arm 0xE9 (c .before .before .before .before .before .match .keys1) refl refl refl refl refl (c .before .before .before .note .ensures) (c .settle .ensures)
 
 returns-2 : tie.Need-returns-2
-unfolding rowOf rowed find operations key keysIn wordOf wordsFrom wordsOf among apart mustOf between choice sound
-returns-2 c = arm 0xE9 (c .before .before .before .before .match .keys2) refl refl refl refl (c .before .before .note2 .ensures) (c .settle2 .ensures)
+unfolding rowOf rowed find operations key members keysIn wordOf wordsFrom wordsOf among apart mustOf groupOf asksNothing groupLast between choice sound
+returns-2 c = arm 0xE9 (c .before .before .before .before .before .match .keys2) refl refl refl refl refl (c .before .before .before .note2 .ensures) (c .settle2 .ensures)
 
 returns-3 : tie.Need-returns-3
-unfolding rowOf rowed find operations key keysIn wordOf wordsFrom wordsOf among apart mustOf between choice sound
-returns-3 c = arm 0xE9 (c .before .before .before .before .match .keys3) refl refl refl refl (c .before .note3 .ensures) (c .settle3 .ensures)
+unfolding rowOf rowed find operations key members keysIn wordOf wordsFrom wordsOf among apart mustOf groupOf asksNothing groupLast between choice sound
+returns-3 c = arm 0xE9 (c .before .before .before .before .before .match .keys3) refl refl refl refl refl (c .before .before .before .note3 .ensures) (c .settle3 .ensures)
 
 returns-4 : tie.Need-returns-4
-unfolding rowOf rowed find operations key keysIn wordOf wordsFrom wordsOf among apart mustOf between choice sound
-returns-4 c = arm 0xE9 (c .before .before .before .before .match .keys4) refl refl refl refl (c .before .note4 .ensures) (c .settle4 .ensures)
+unfolding rowOf rowed find operations key members keysIn wordOf wordsFrom wordsOf among apart mustOf groupOf asksNothing groupLast between choice sound
+returns-4 c = arm 0xE9 (c .before .before .before .before .before .match .keys4) refl refl refl refl refl (c .before .before .before .note4 .ensures) (c .settle4 .ensures)
 
 returns-5 : tie.Need-returns-5
-unfolding rowOf rowed find operations key keysIn wordOf wordsFrom wordsOf among apart mustOf between choice sound
-returns-5 c = arm 0xE9 (c .before .before .before .before .match .keys5) refl refl refl refl (c .before .note5 .ensures) (c .settle5 .ensures)
-
-returns-6 : tie.Need-returns-6
-unfolding rowOf rowed find operations key keysIn wordOf wordsFrom wordsOf among apart mustOf between choice sound
-returns-6 c = arm 0xE9 (c .before .before .before .before .match .keys6) refl refl refl refl (c .before .note6 .ensures) (c .settle6 .ensures)
-
-returns-7 : tie.Need-returns-7
-returns-7 c = no-invoke _ (c .match .rest)
+returns-5 c = c .judge-page .ensures
 
 -- of each arm: the lengths of its arrays, and what is required of the table
 pub judge-invoke-spec : {M : Type 1} → statement M
 judge-invoke-spec =
     tie.close
     (tie.spec
-    (λ c. search needs) (λ c. search needs) (λ c κs. search needs) (λ c κs. search needs)
-    (λ c. search needs) (λ c κs. search needs) (λ c. search needs) (λ c κs. search needs)
-    (λ c. search needs) (λ c. search needs) (λ c κs. search needs) (λ c κs. search needs)
-    (λ c. search needs) (λ c. search needs) (λ c κs. search needs) (λ c κs. search needs)
-    (λ c. search needs) (λ c. search needs) (λ c κs. search needs) (λ c κs. search needs)
-    (λ c. search needs) (λ c. search needs) (λ c κs. search needs) (λ c κs. search needs)
+    (λ c. search needs) (λ c κs. search needs) (λ c. search needs) (λ c. search needs) (λ c κs. search needs)
+    (λ c. search needs) (λ c κs. search needs) (λ c. search needs) (λ c. search needs) (λ c κs. search needs)
+    (λ c. search needs) (λ c κs. search needs) (λ c. search needs) (λ c. search needs) (λ c κs. search needs)
+    (λ c. search needs) (λ c κs. search needs) (λ c. search needs) (λ c. search needs) (λ c κs. search needs)
+    (λ c κs. search needs)
     returns
     returns-2
     returns-3
     returns-4
-    returns-5
-    returns-6
-    returns-7)
+    returns-5)
