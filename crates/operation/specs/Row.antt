@@ -46,7 +46,7 @@ unfoldable pub named : Row → ℕ → Bool
 named [] k = false
 named (l ∷ ls) k = onLine l k || named ls k
 
--- behind its group a row asks for nothing more
+-- 13 asks in row order, and for a group behind the others: no line behind it asks for anything
 unfoldable pub asksNothing : Row → Bool
 asksNothing [] = true
 asksNothing (must j ∷ ls) = false

@@ -128,8 +128,8 @@ fn group_missing(group: &[u16], seen: &[u64]) -> Missing
     answer
 }
 
-// 13: the first that must occur and was not noted, and behind these the group. Of a choice `one` stands in the list, and
-// the other will do.
+// 13: the first that must occur and was not noted, and behind these the group. Of a choice `one` stands in the list,
+// and the other will do.
 fn first_missing(must: &[u16], group: &[u16], one: u64, other: u64, seen: &[u64]) -> Missing
     ensures { λ r. ⌜ missingIn r ≡ lacking (now (must .entry)) (now (group .entry)) one other (now (seen .entry)) ⌝ }
 {

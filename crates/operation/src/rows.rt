@@ -48,10 +48,10 @@ pub(crate) const NETWORK_TMSI: u16 = 466;
 
 pub(crate) const IMSI: u16 = 484;
 
-// ---- the rows. Of each first what must occur, in the paper's order, and of a choice its first member; then the members
-// of its group, if it has one; then all that it names, as a set: a word for 64 keys, so for 32 numbers, from number 0 on,
-// and none behind the last that is not 0. What a row must be here that was changed in the definitions is told by
-// `harness/rows`.
+// ---- the rows. Of each first what must occur, in the paper's order, and of a choice its first member; then the
+// members of its group, if it has one; then all that it names, as a set: a word for 64 keys, so for 32 numbers, from
+// number 0 on, and none behind the last that is not 0. What a row must be here that was changed in the definitions is
+// told by `harness/rows`.
 
 const HANDOFF_BACK_MUST: [u16; 5] = [
     CHANNEL_DATA,

@@ -34,7 +34,7 @@ pub record Walked (r : R.Repeat) (names seen : List ℕ) (xs : List Item) : Type
   pub counted : (row : Row) → Names row names → repeatIn r ≡ onceCounted row xs
   pub noted : (row : Row) → Names row names → Noted r row seen xs
 
--- 13 by what was noted: of a group where none of it was, then of what must occur, and the group behind it
+-- 13 by what was noted: what must occur, and behind it the group, by its first, where none of it was
 unfoldable pub anyHeld : (seen ks : List ℕ) → Bool
 anyHeld seen [] = false
 anyHeld seen (k ∷ ks) = holds seen k || anyHeld seen ks
@@ -56,5 +56,5 @@ missingIn (MV.Number number) = refused 13 number
 -- 13 and 14 behind a walk, at any row that asks for what the list holds
 pub record Settles (noted : R.Repeat) (r : J.Judged) (list group : List ℕ) (one other : ℕ) (seen : List ℕ)
     (xs : List Item) : Type 0 where
-  pub judged : (row : Row) → Asks row list group one other → repeatIn noted ≡ onceCounted row xs → Noted noted row seen xs →
-      judgedIn r ≡ judgement row xs
+  pub judged : (row : Row) → Asks row list group one other → repeatIn noted ≡ onceCounted row xs →
+      Noted noted row seen xs → judgedIn r ≡ judgement row xs
