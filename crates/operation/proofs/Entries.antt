@@ -11,7 +11,7 @@ use native.Mathlib.Omega.{arith}
 use native.Mathlib.Nat.{sub-zero}
 use native.Mathlib.Numerals.{add-one}
 use Rattle.element.specs.Octets.{if}
-use Rattle.operation.specs.Row.{Line, oneOf, Item, members, among, onLine}
+use Rattle.operation.specs.Row.{Line, oneOf, Item, members, someOf, among, onLine}
 use Rattle.operation.specs.Judge.{occurs, lastMark}
 use Rattle.operation.specs.inner.Coded.{itemAt, itemsFrom}
 
@@ -72,16 +72,16 @@ module _ {x : Item} {xs ys : List Item} (e : xs ≡ x ∷ ys) {j k : ℕ} (f : j
 -- which keys a choice names
 module _ (i j k : ℕ) where
   pub is-one : k ≡ i → true ≡ onLine (oneOf i j) k
-  unfolding onLine members among
+  unfolding onLine members someOf among
   is-one e = rw (eq-eqb k i e)
 
   module _ (n : k ≡ i → ⊥) where
     pub is-other : k ≡ j → true ≡ onLine (oneOf i j) k
-    unfolding onLine members among
+    unfolding onLine members someOf among
     is-other e = rw (ne-eqb k i n, eq-eqb k j e)
 
     pub is-neither : (k ≡ j → ⊥) → false ≡ onLine (oneOf i j) k
-    unfolding onLine members among
+    unfolding onLine members someOf among
     is-neither m = rw (ne-eqb k i n, ne-eqb k j m)
 
 -- the last entry that a line names, where it was `m` among those before `at`

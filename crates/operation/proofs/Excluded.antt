@@ -26,8 +26,8 @@ use Rattle.component.specs.Composing.{entryStands, takenFrom, entriesFrom, entr
 use Rattle.element.specs.Output.{written, outputAfter}
 use Rattle.component.specs.Types.{formatOf, typed, idFits}
 use Rattle.component.specs.Needed.{elementSize, setSize, codingSize, bodySize, octetsNeeded}
-use Rattle.operation.specs.Row.{Row, key, numberOf, members, among, onLine, asks, named, named as names, repeats}
-use Rattle.operation.specs.Judge.{occurs, anyOccurs, lastMark, once, met, present, doubled, single, judge, countNamed}
+use Rattle.operation.specs.Row.{Row, key, numberOf, members, someOf, among, onLine, asks, named, named as names, repeats}
+use Rattle.operation.specs.Judge.{occurs, lastMark, once, met, present, doubled, single, judge, countNamed}
 use Rattle.operation.specs.Rows.{operations}
 use Rattle.operation.specs.Finding.{find, rowed, rowOf}
 use Rattle.operation.specs.Items.{itemsOf}
@@ -110,7 +110,7 @@ abbrev order : Order
 order = record { kind = 0xEA; id = record { count = 1; first = 5; second = 0 }; code = record { first = 4; second = 0 }; count = 1; table = 5 ∷ 0 ∷ 0 ∷ 0 ∷ 0 ∷ []; source = [] }
 
 composed-so : writer order (replicate 9 0) ≡ record { answer = accepted 9; output = chart }
-unfolding shortest fieldSize identifier identifierSize key numberOf members among onLine asks named repeats occurs anyOccurs lastMark once met present doubled single judge countNamed operations find rowed rowOf formatOf typed element setOf codeElement composed fits heldFrom parameterOf entryStands takenFrom elementSize setSize codingSize bodySize octetsNeeded idFits idOctets writtenCode componentOf entriesOf octetsOf written outputAfter itemsOf writing
+unfolding shortest fieldSize identifier identifierSize key numberOf members someOf among onLine asks named repeats occurs lastMark once met present doubled single judge countNamed operations find rowed rowOf formatOf typed element setOf codeElement composed fits heldFrom parameterOf entryStands takenFrom elementSize setSize codingSize bodySize octetsNeeded idFits idOctets writtenCode componentOf entriesOf octetsOf written outputAfter itemsOf writing
 composed-so = refl
 
 -- an entry but for its place

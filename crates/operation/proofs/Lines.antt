@@ -6,8 +6,8 @@ use mathlib.Core.List.{List, [], _∷_, map, List·Memᴰ, List·Memᴰ·head, L
 use lib.Dec.{eqb}
 use borrow.Author.Tests.{eq-eqb}
 use Rattle.element.specs.Octets.{if}
-use Rattle.operation.specs.Row.{Line, must, oneOf, anyOf, may, Item, members, among, onLine}
-use Rattle.operation.specs.Judge.{occurs, anyOccurs, met, doubled, lastMark, remark}
+use Rattle.operation.specs.Row.{Line, must, oneOf, anyOf, may, Item, members, someOf, among, onLine}
+use Rattle.operation.specs.Judge.{occurs, met, doubled, lastMark, remark}
 
 pub or-false : (a b : Bool) → (a || b) ≡ false → (a ≡ false) × (b ≡ false)
 or-false true b e = (cc, cc)
@@ -32,17 +32,17 @@ self k = eq-eqb k k refl
 
 -- ---- what meets a line
 -- of its members alone
-module _ (xs ys : List Item) where
-  any-same : (ks : List ℕ) → ((k : ℕ) → among ks k ≡ true → occurs k ys ≡ occurs k xs) → anyOccurs ks ys ≡ anyOccurs ks xs
-  unfolding among anyOccurs
-  any-same [] h = refl
-  any-same (j ∷ ks) h = rw (h j (rw (self j)), any-same ks λ k e. h k (rw e (or-true (eqb k j))))
+pub some-same : (p q : ℕ → Bool) (ks : List ℕ) → ((k : ℕ) → among ks k ≡ true → p k ≡ q k) → someOf p ks ≡ someOf q ks
+unfolding among someOf
+some-same p q [] h = refl
+some-same p q (j ∷ ks) h = rw (h j (rw (self j)), some-same p q ks λ k e. h k (rw e (or-true (eqb k j))))
 
+module _ (xs ys : List Item) where
   pub met-same : (l : Line) → ((k : ℕ) → onLine l k ≡ true → occurs k ys ≡ occurs k xs) → (met l ys ≡ met l xs) × (doubled l ys ≡ doubled l xs)
-  unfolding onLine members among met doubled
+  unfolding onLine members someOf among met doubled
   met-same (must j) h = (h j (rw (self j)), refl)
   met-same (oneOf i j) h = rw (h i (rw (self i)), h j (simp (self j, or-true))) (refl, refl)
-  met-same (anyOf i js) h = (any-same (i ∷ js) h, refl)
+  met-same (anyOf i js) h = (some-same (λ k. occurs k ys) (λ k. occurs k xs) (i ∷ js) h, refl)
   met-same (may j) h = (refl, refl)
 
 -- ---- what relates the marks of each item on a choice, in a run and in the run remarked, relates the last ones, where both members occur
@@ -54,7 +54,7 @@ module _ (R : ℕ → ℕ → Type 0) (f : ℕ → ℕ) where
   last-from : (i j : ℕ) (xs : List Item) {m n : ℕ} → (occurs i xs ≡ false → R m n) →
       ((x : Item) → List·Memᴰ x xs → onLine (oneOf i j) (x .is) ≡ true → R (f (x .mark)) (x .mark)) →
       R (lastMark (oneOf i j) m (map (remark f) xs)) (lastMark (oneOf i j) n xs)
-  unfolding occurs lastMark remark onLine members among
+  unfolding occurs lastMark remark onLine members someOf among
   last-from i j [] h q = h refl
   last-from i j (x ∷ xs) h q =
       last-from i j xs (λ o. choose (onLine (oneOf i j) (x .is)) (q x (List·Memᴰ·head refl)) λ e. h (rw (or-false (eqb (x .is) i) _ e .0) o))

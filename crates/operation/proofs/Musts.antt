@@ -11,31 +11,31 @@ use borrow.Author.Tests.{eqb-true, eq-eqb, ne-eqb, not-true}
 use native.Mathlib.Numerals.{add-one}
 use native.Mathlib.Omega.{arith}
 use Rattle.element.specs.Answer.{Answer, accepted, refused, _>>_, check}
-use Rattle.operation.specs.Row.{Row, Line, must, oneOf, anyOf, may, members, among, asks, asksNothing, groupLast, Item, onLine, named, numberOf}
-use Rattle.operation.specs.Judge.{occurs, anyOccurs, lastMark, met, present, doubled, single}
+use Rattle.operation.specs.Row.{Row, Line, must, oneOf, anyOf, may, members, someOf, among, asks, asksNothing, groupLast, Item, onLine, named, numberOf}
+use Rattle.operation.specs.Judge.{occurs, lastMark, met, present, doubled, single}
 use Rattle.operation.specs.inner.Coded.{holds, mustOf, groupOf, between, choice, Asks}
-use Rattle.operation.specs.inner.Firsts.{anyHeld, lackingAll, lacking}
-use Rattle.operation.proofs.Lines.{each, self}
+use Rattle.operation.specs.inner.Firsts.{lackingAll, lacking}
+use Rattle.operation.proofs.Lines.{each, self, some-same}
 
 -- ---- the walk over a group
 
 module _ (group seen : List ℕ) where
   -- what is left of it from `at` on; it gives the first
   abbrev pub groupFrom : (at : ℕ) → Answer Unit
-  groupFrom at = check (anyHeld seen (drop at group)) 13 (numberOf (getD group 0 0))
+  groupFrom at = check (someOf (holds seen) (drop at group)) 13 (numberOf (getD group 0 0))
 
   module _ (at : ℕ) where
     pub none-held : length group ≤ at → refused 13 (getD group 0 0 / 2) ≡ groupFrom at
-    unfolding anyHeld numberOf
+    unfolding someOf numberOf
     none-held h = rw (drop-of-length-le group h)
 
     module _ (h : at < length group) {k : ℕ} (f : k ≡ getD group at 0) {a : Bool} (g : a ≡ holds seen k) where
       pub one-held : a ≡ true → accepted tt ≡ groupFrom at
-      unfolding anyHeld
+      unfolding someOf
       one-held e = rw (drop-cons group at 0 h, ← f, ← g, e)
 
       pub not-held : a ≡ false → groupFrom (at + 1) ≡ groupFrom at
-      unfolding anyHeld
+      unfolding someOf
       not-held e = rw (add-one, drop-cons group at 0 h, ← f, ← g, e)
 
 pub no-group : (group seen : List ℕ) → length group ≡ 0 → accepted tt ≡ lackingAll group seen
@@ -104,11 +104,6 @@ module _ (one other : ℕ) (seen : List ℕ) (xs : List Item) where
       by true e h = let f = eqb-true one other (sym (or-false (eqb one other)) ∙ h) in rw (eqb-true j one e, f) (or-self (holds seen other))
       by false e h = or-false (holds seen j)
 
-  any-noted : (ks : List ℕ) → ((k : ℕ) → among ks k ≡ true → holds seen k ≡ occurs k xs) → anyHeld seen ks ≡ anyOccurs ks xs
-  unfolding among anyHeld anyOccurs
-  any-noted [] n = refl
-  any-noted (j ∷ ks) n = rw (n j (rw (self j)), any-noted ks λ k e. n k (rw e (or-true (eqb k j))))
-
   nothing-asked : (ls : Row) → asksNothing ls ≡ true → (mustOf ls ≡ []) × (accepted tt ≡ present ls xs)
   unfolding asksNothing mustOf present met
   nothing-asked [] e = (refl, refl)
@@ -118,14 +113,14 @@ module _ (one other : ℕ) (seen : List ℕ) (xs : List Item) where
   nothing-asked (may j ∷ ls) e = nothing-asked ls e
 
   asked : (ls : Row) → Known ls → groupLast ls ≡ true → between one other ls ≡ true → lacking (mustOf ls) (groupOf ls) one other seen ≡ present ls xs
-  unfolding lacking lackingAll mustOf groupOf present met asks between onLine members among groupLast
+  unfolding lacking lackingAll mustOf groupOf present met asks between onLine members someOf among groupLast
   asked [] n g h = refl
   asked (must j ∷ ls) n g h =
       let (o, p) = each (eqb one other || not (eqb j one)) _ h in
       rw (alone j o, own (must j) ls n j (rw (self j)), asked ls (later (must j) ls n) g p)
   asked (anyOf i js ∷ ls) n g h =
       let (m, p) = nothing-asked ls g in
-      rw (m, any-noted (i ∷ js) (own (anyOf i js) ls n), ← p) (alone-asked (anyOccurs (i ∷ js) xs) (numberOf i))
+      rw (m, some-same (holds seen) (λ k. occurs k xs) (i ∷ js) (own (anyOf i js) ls n), ← p) (alone-asked (someOf (λ k. occurs k xs) (i ∷ js)) (numberOf i))
   asked (oneOf i j ∷ ls) n g h =
       let (o, p) = each (not (eqb one other) && (eqb i one && eqb j other)) _ h in
       let (q, r) = each (eqb i one) _ (each (not (eqb one other)) _ o .1) in
@@ -134,7 +129,7 @@ module _ (one other : ℕ) (seen : List ℕ) (xs : List Item) where
   asked (may j ∷ ls) n g h = asked ls (later (may j) ls n) g h
 
   not-two : (ls : Row) → Known ls → between one other ls ≡ true → (eqb one other ≡ false → (holds seen one && holds seen other) ≡ false) → accepted tt ≡ single ls xs
-  unfolding single doubled between onLine members among
+  unfolding single doubled between onLine members someOf among
   not-two [] n h z = refl
   not-two (must j ∷ ls) n h z = not-two ls (later (must j) ls n) (each (eqb one other || not (eqb j one)) _ h .1) z
   not-two (oneOf i j ∷ ls) n h z =

@@ -11,8 +11,8 @@ use native.Mathlib.Omega.{arith}
 use Rattle.element.specs.Octets.{if}
 use Rattle.element.specs.Answer.{Answer, accepted, refused, _>>_, check}
 use Rattle.component.proofs.Ends.{Ends, gives, stops}
-use Rattle.operation.specs.Row.{Row, Line, must, oneOf, anyOf, may, asks, Item, members, among, onLine, named, repeats}
-use Rattle.operation.specs.Judge.{occurs, anyOccurs, lastMark, once, met, present, doubled, single, judge}
+use Rattle.operation.specs.Row.{Row, Line, must, oneOf, anyOf, may, asks, Item, members, someOf, among, onLine, named, repeats}
+use Rattle.operation.specs.Judge.{occurs, lastMark, once, met, present, doubled, single, judge}
 use Rattle.operation.specs.Book.{times, Kept, occurred, first, second, any, allowed, Each, none, more, Once, Fits}
 use Rattle.operation.specs.Faults.{keysOf, First, Last, Unmet, Doubled, RowFault, again, missing, both}
 use Rattle.operation.proofs.Lines.{or-false, each, self}
@@ -100,13 +100,13 @@ module _ (xs : List Item) where
   abbrev Ks : List ℕ
   Ks = keysOf xs
 
-  none-occurs : (ks : List ℕ) → anyOccurs ks xs ≡ false → Each (λ k. times k Ks ≡ 0) ks
-  unfolding anyOccurs
+  none-occurs : (ks : List ℕ) → someOf (λ k. occurs k xs) ks ≡ false → Each (λ k. times k Ks ≡ 0) ks
+  unfolding someOf
   none-occurs [] e = none
   none-occurs (k ∷ ks) e = let (a, b) = or-false (occurs k xs) _ e in more (absent k xs a) (none-occurs ks b)
 
-  one-occurs : {ks : List ℕ} → anyOccurs ks xs ≡ true → Each (λ k. times k Ks ≡ 0) ks → ⊥
-  unfolding anyOccurs
+  one-occurs : {ks : List ℕ} → someOf (λ k. occurs k xs) ks ≡ true → Each (λ k. times k Ks ≡ 0) ks → ⊥
+  unfolding someOf
   one-occurs e none = true≢false (sym e)
   one-occurs e (more {x = k} z n) = one-occurs (sym (rw (not-occurring k xs z)) ∙ e) n
 
@@ -264,13 +264,13 @@ first-holds (First.here p) = p
 first-holds (First.later n f) = first-holds f
 
 none-on : (i j : ℕ) {ys : List Item} → Each (λ y. onLine (oneOf i j) (y .is) ≡ true → ⊥) ys → times i (keysOf ys) ≡ 0
-unfolding times onLine members among
+unfolding times onLine members someOf among
 none-on i j none = refl
 none-on i j (more {x = y} h e) = rw (or-false (eqb (y .is) i) _ (other _ h) .0) (none-on i j e)
 
 -- of a group one occurs, or all are absent
 some-of : (ks js : List ℕ) → (Each (λ j. times j ks ≡ 0) js → ⊥) → (j : ℕ) × (among js j ≡ true) × (1 ≤ times j ks)
-unfolding among
+unfolding among someOf
 some-of ks [] h = absurd (h none)
 some-of ks (j ∷ js) h = go (decLe 1 (times j ks)) λ z. some-of ks js λ e. h (more z e)
   where
@@ -279,7 +279,7 @@ some-of ks (j ∷ js) h = go (decLe 1 (times j ks)) λ z. some-of ks js λ e. h 
     go (no a) f = let (i, m, o) = f (omega arith) in (i, rw m (or-true (eqb i j)), o)
 
 absent-all : (ks : List ℕ) {js : List ℕ} (j : ℕ) → Each (λ i. times i ks ≡ 0) js → among js j ≡ true → times j ks ≡ 0
-unfolding among
+unfolding among someOf
 absent-all ks j none m = absurd (true≢false (sym m))
 absent-all ks j (more {x = i} {xs = js} z n) m = by (eqb j i) refl m (absent-all ks j n)
   where

@@ -12,7 +12,7 @@ use lib.Pow.{pow-lt}
 use native.Mathlib.Omega.{arith}
 use native.Mathlib.Nat.{pow-suc, pow-succ', zero-add, add-zero, add-comm, one-mul, mod-eq-of-lt, div-div-eq-div-mul}
 use Rattle.element.specs.Octets.{if}
-use Rattle.operation.specs.Row.{Row, members, among, onLine, named}
+use Rattle.operation.specs.Row.{Row, members, someOf, among, onLine, named}
 use Rattle.operation.specs.inner.Coded.{bit, holds, Names, keysIn, wordOf, wordsFrom, wordsOf, apart}
 use Rattle.operation.proofs.Lines.{each}
 
@@ -170,14 +170,14 @@ module _ (js : List ℕ) (j k : ℕ) (has : (k : ℕ) → bit (wordOf js (k / 64
 
 module _ (m : ℕ) where
   word-has : (ks : List ℕ) → apart m ks ≡ true → (k : ℕ) → bit (wordOf ks (k / 64)) (k % 64) ≡ among ks k
-  unfolding wordOf among apart
+  unfolding wordOf someOf among apart
   word-has [] h k = no-bit (k % 64)
   word-has (j ∷ js) h k =
       let (o, p) = each (ltb (j / 64) m && not (among js j)) _ h in
       one-key js j k (word-has js p) (not-true (among js j) (each (ltb (j / 64) m) _ o .1)) (eqb (j / 64) (k / 64)) refl
 
   small : (ks : List ℕ) → apart m ks ≡ true → (k : ℕ) → m ≤ k / 64 → among ks k ≡ false
-  unfolding among apart
+  unfolding someOf among apart
   small [] h k l = refl
   small (j ∷ js) h k l =
       let (o, p) = each (ltb (j / 64) m && not (among js j)) _ h in
@@ -191,12 +191,12 @@ from ks i (suc n) zero h = ap (wordOf ks) (sym (add-zero i))
 from ks i (suc n) (suc d) h = from ks (i + 1) n d (omega arith) ∙ ap (wordOf ks) (omega arith)
 
 either : (js ks : List ℕ) (k : ℕ) → among (js ++ ks) k ≡ (among js k || among ks k)
-unfolding among
+unfolding someOf among
 either [] ks k = refl
 either (j ∷ js) ks k = rw (either js ks k) (sym (or-assoc (eqb k j) (among js k) (among ks k)))
 
 names : (row : Row) (k : ℕ) → among (keysIn row) k ≡ named row k
-unfolding keysIn among named onLine
+unfolding keysIn someOf among named onLine
 names [] k = refl
 names (l ∷ ls) k = rw (either (members l) (keysIn ls) k, names ls k)
 

@@ -5,15 +5,11 @@ use mathlib.Core.List.{List, [], _∷_}
 use lib.Dec.{eqb}
 use Rattle.element.specs.Octets.{if}
 use Rattle.element.specs.Answer.{Answer, accepted, refused, _>>=_, _>>_, check}
-use Rattle.operation.specs.Row.{Line, must, oneOf, anyOf, may, asks, Row, onLine, named, repeats, Item}
+use Rattle.operation.specs.Row.{Line, must, oneOf, anyOf, may, asks, Row, someOf, onLine, named, repeats, Item}
 
 unfoldable pub occurs : ℕ → List Item → Bool
 occurs k [] = false
 occurs k (x ∷ xs) = eqb (x .is) k || occurs k xs
-
-unfoldable pub anyOccurs : List ℕ → List Item → Bool
-anyOccurs [] xs = false
-anyOccurs (k ∷ ks) xs = occurs k xs || anyOccurs ks xs
 
 -- the mark of the last item on a line
 unfoldable pub lastMark : Line → (sofar : ℕ) → List Item → ℕ
@@ -31,7 +27,7 @@ once row seen (x ∷ xs) = do
 unfoldable pub met : Line → List Item → Bool
 met (must j) xs = occurs j xs
 met (oneOf i j) xs = occurs i xs || occurs j xs
-met (anyOf i js) xs = anyOccurs (i ∷ js) xs
+met (anyOf i js) xs = someOf (λ k. occurs k xs) (i ∷ js)
 met (may j) xs = true
 
 unfoldable pub present : Row → List Item → Answer Unit

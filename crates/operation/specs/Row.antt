@@ -28,9 +28,12 @@ members (oneOf i j) = i ∷ j ∷ []
 members (anyOf i js) = i ∷ js
 members (may j) = j ∷ []
 
+unfoldable pub someOf : (ℕ → Bool) → List ℕ → Bool
+someOf p [] = false
+someOf p (k ∷ ks) = p k || someOf p ks
+
 unfoldable pub among : List ℕ → ℕ → Bool
-among [] k = false
-among (j ∷ js) k = eqb k j || among js k
+among ks k = someOf (eqb k) ks
 
 unfoldable pub onLine : Line → ℕ → Bool
 onLine l k = among (members l) k

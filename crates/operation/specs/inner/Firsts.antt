@@ -1,11 +1,11 @@
 -- What the engine's searches for a first fault answer: the fault's number and where it is, else what comes of the run.
 use Prim.Native.Nat.{ℕ}
 use mathlib.Core.Path.{_≡_}
-use mathlib.Core.Bool.{Bool, false, _&&_, _||_}
+use mathlib.Core.Bool.{_&&_, _||_}
 use mathlib.Core.List.{List, [], _∷_}
 use lib.Dec.{eqb}
 use Rattle.element.specs.Answer.{Answer, accepted, refused, _>>=_, _>>_, check}
-use Rattle.operation.specs.Row.{Row, Item, numberOf, named}
+use Rattle.operation.specs.Row.{Row, Item, numberOf, someOf, named}
 use Rattle.operation.specs.Judge.{occurs, once, countNamed}
 use Rattle.operation.specs.inner.Coded.{holds, Names, Asks, judgement, judgedIn}
 use Rattle.operation.specs.declared.Judged as J
@@ -35,13 +35,9 @@ pub record Walked (r : R.Repeat) (names seen : List ℕ) (xs : List Item) : Type
   pub noted : (row : Row) → Names row names → Noted r row seen xs
 
 -- 13 by what was noted: what must occur, and behind it the group, by its first, where none of it was
-unfoldable pub anyHeld : (seen ks : List ℕ) → Bool
-anyHeld seen [] = false
-anyHeld seen (k ∷ ks) = holds seen k || anyHeld seen ks
-
 unfoldable pub lackingAll : (group seen : List ℕ) → Answer Unit
 lackingAll [] seen = accepted tt
-lackingAll (k ∷ ks) seen = check (anyHeld seen (k ∷ ks)) 13 (numberOf k)
+lackingAll (k ∷ ks) seen = check (someOf (holds seen) (k ∷ ks)) 13 (numberOf k)
 
 unfoldable pub lacking : (list group : List ℕ) (one other : ℕ) (seen : List ℕ) → Answer Unit
 lacking [] group one other seen = lackingAll group seen

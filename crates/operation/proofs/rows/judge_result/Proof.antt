@@ -3,7 +3,7 @@
 -- Assumes nothing.
 use mathlib.Core.Path.{refl}
 use borrow.Author.Needs.{needs}
-use Rattle.operation.specs.Row.{key, members, among, asksNothing, groupLast}
+use Rattle.operation.specs.Row.{key, members, someOf, among, asksNothing, groupLast}
 use Rattle.operation.specs.Finding.{rowed, rowOf, find}
 use Rattle.operation.specs.Rows.{operations}
 use Rattle.operation.specs.inner.Coded.{keysIn, wordOf, wordsFrom, wordsOf, apart, mustOf, groupOf, between, choice, sound}
@@ -13,27 +13,27 @@ use Rattle.operation.proofs.rows.judge_result.Statement.{statement}
 use Rattle.operation.proofs.rows.judge_result.Tie as tie
 
 returns : tie.Need-returns
-unfolding rowOf rowed find operations key members keysIn wordOf wordsFrom wordsOf among apart mustOf groupOf asksNothing groupLast between choice sound
+unfolding rowOf rowed find operations key members keysIn wordOf wordsFrom wordsOf someOf among apart mustOf groupOf asksNothing groupLast between choice sound
 returns c = arm 0xEA (c .before .before .before .before .before .match .keys1) refl refl refl refl refl (c .before .before .before .note .ensures) (c .settle .ensures)
 
 returns-2 : tie.Need-returns-2
-unfolding rowOf rowed find operations key members keysIn wordOf wordsFrom wordsOf among apart mustOf groupOf asksNothing groupLast between choice sound
+unfolding rowOf rowed find operations key members keysIn wordOf wordsFrom wordsOf someOf among apart mustOf groupOf asksNothing groupLast between choice sound
 returns-2 c = arm 0xEA (c .before .before .before .before .before .match .keys2) refl refl refl refl refl (c .before .before .before .note2 .ensures) (c .settle2 .ensures)
 
 returns-3 : tie.Need-returns-3
-unfolding rowOf rowed find operations key members keysIn wordOf wordsFrom wordsOf among apart mustOf groupOf asksNothing groupLast between choice sound
+unfolding rowOf rowed find operations key members keysIn wordOf wordsFrom wordsOf someOf among apart mustOf groupOf asksNothing groupLast between choice sound
 returns-3 c = arm 0xEA (c .before .before .before .before .before .match .keys3) refl refl refl refl refl (c .before .before .before .note3 .ensures) (c .settle3 .ensures)
 
 returns-4 : tie.Need-returns-4
-unfolding rowOf rowed find operations key members keysIn wordOf wordsFrom wordsOf among apart mustOf groupOf asksNothing groupLast between choice sound
+unfolding rowOf rowed find operations key members keysIn wordOf wordsFrom wordsOf someOf among apart mustOf groupOf asksNothing groupLast between choice sound
 returns-4 c = arm 0xEA (c .before .before .before .before .before .match .keys4) refl refl refl refl refl (c .before .before .before .note4 .ensures) (c .settle4 .ensures)
 
 returns-5 : tie.Need-returns-5
-unfolding rowOf rowed find operations key members keysIn wordOf wordsFrom wordsOf among apart mustOf groupOf asksNothing groupLast between choice sound
+unfolding rowOf rowed find operations key members keysIn wordOf wordsFrom wordsOf someOf among apart mustOf groupOf asksNothing groupLast between choice sound
 returns-5 c = arm 0xEA (c .before .before .before .before .before .match .keys5) refl refl refl refl refl (c .before .before .before .note5 .ensures) (c .settle5 .ensures)
 
 returns-6 : tie.Need-returns-6
-unfolding rowOf rowed find operations key members keysIn wordOf wordsFrom wordsOf among apart mustOf groupOf asksNothing groupLast between choice sound
+unfolding rowOf rowed find operations key members keysIn wordOf wordsFrom wordsOf someOf among apart mustOf groupOf asksNothing groupLast between choice sound
 returns-6 c = arm 0xEA (c .before .before .before .before .before .match .keys6) refl refl refl refl refl (c .before .before .before .note6 .ensures) (c .settle6 .ensures)
 
 returns-7 : tie.Need-returns-7
