@@ -265,7 +265,7 @@ module _ (r : Reader) (w : Writer) (d : Demands r w) where
       Truthful (h .laid) (k .laid) (no-newcomer row (c .parameters)) t (r s given t) (r u given t)
   lengths-change-nothing given c s u t {row} o b enough h k e = d .third .truthful given c c s u t o b enough h k refl refl refl e (no-newcomer row (c .parameters))
 
-  -- ---- groups: `only-the-group` and `of-a-choice` (Groups) say the same of any run
+  -- ---- groups, each by one page; `Groups` has what holds of any run
   -- ESN and all of the group are missing
   pub group-asked-last : r (page 0x0B 0x02 []) 0 zeros ≡ read (refused 13 9) zeros
   group-asked-last = ours-is _ 0 zeros (small (page 0x0B 0x02 []) (omega arith)) ∙ ap (at 56) rows-live

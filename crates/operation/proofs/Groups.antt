@@ -1,15 +1,37 @@
--- What 13 and 14 say of a group: it is asked for last, and by its first member; several of its members may occur.
-use Prim.Native.Nat.{ℕ}
+-- What 13 and 14 say of a group: what meets it, that 13 gives its first member's number and asks for it last, and that 14 is not of it.
+use Prim.Native.Nat.{ℕ, _≤_}
 use mathlib.Core.Path.{_≡_, refl, sym}
 use mathlib.Core.Bool.{Bool, true, true≢false}
 use mathlib.Core.List.{List, [], _∷_, List·Memᴰ, List·Memᴰ·head, List·Memᴰ·tail}
 use native.Mathlib.Omega.{arith}
-use Rattle.operation.specs.Row.{Row, Line, must, oneOf, anyOf, may, Item, asksNothing, groupLast}
+use Rattle.operation.specs.Row.{Row, Line, must, oneOf, anyOf, may, Item, asks, numberOf, asksNothing, groupLast}
 use Rattle.operation.specs.Rows.{Operation, operations}
-use Rattle.operation.specs.Book.{Each, none, more}
-use Rattle.operation.specs.Faults.{First, Unmet, Doubled, RowFault, again, missing, both}
+use Rattle.operation.specs.Book.{Each, none, more, times, Once}
+use Rattle.operation.specs.Faults.{keysOf, First, Unmet, Doubled, RowFault, again, missing, both}
 use Rattle.operation.specs.Demands.{RowFor, listed, unasked}
 use Rattle.operation.proofs.Lines.{all, of-all}
+
+-- in any row: a group's members meet it, each alone and with others, and nothing else does
+one-meets : (ks : List ℕ) {j : ℕ} {js : List ℕ} → List·Memᴰ j js → 1 ≤ times j ks → Each (λ i. times i ks ≡ 0) js → ⊥
+one-meets ks {js = i ∷ js} (List·Memᴰ·head q) o (more z e) = let p : 1 ≤ times i ks = rw (sym q) o in omega arith
+one-meets ks (List·Memᴰ·tail m) o (more z e) = one-meets ks m o e
+
+none-meets : (ks js : List ℕ) → ((j : ℕ) → List·Memᴰ j js → times j ks ≡ 0) → Each (λ i. times i ks ≡ 0) js
+none-meets ks [] h = none
+none-meets ks (j ∷ js) h = more (h j (List·Memᴰ·head refl)) (none-meets ks js λ i m. h i (List·Memᴰ·tail m))
+
+module _ (ks : List ℕ) (i : ℕ) (js : List ℕ) where
+  pub each-meets : {j : ℕ} → List·Memᴰ j (i ∷ js) → 1 ≤ times j ks → Unmet ks (anyOf i js) → ⊥
+  each-meets m o u = one-meets ks m o u
+
+  pub only-members-meet : ((j : ℕ) → List·Memᴰ j (i ∷ js) → times j ks ≡ 0) → Unmet ks (anyOf i js)
+  only-members-meet h = none-meets ks (i ∷ js) h
+
+-- 13 gives it by its first member
+pub by-its-first : {row : Row} {xs : List Item} {i : ℕ} {js : List ℕ} → Once row (keysOf xs) →
+    First (Unmet (keysOf xs)) row (anyOf i js) → RowFault row xs 13 (numberOf i)
+unfolding asks
+by-its-first o f = missing o f
 
 -- in each row of the paper
 abbrev last-in : Operation → Bool
@@ -55,15 +77,17 @@ module _ (ks : List ℕ) where
         Each (λ l. Unmet ks l → l ≡ anyOf i js) row
     only-the-group {row = row} r f = only-it row (groups-last r) f
 
--- in any row 14 is of a choice
-the-choice : {ks : List ℕ} {row : Row} {l : Line} → First (Doubled ks) row l → (i : ℕ) × (j : ℕ) × List·Memᴰ (oneOf i j) row
-the-choice (First.here {x = must j} h) = absurd h
-the-choice (First.here {x = oneOf i j} h) = (i, j, List·Memᴰ·head refl)
-the-choice (First.here {x = anyOf i js} h) = absurd h
-the-choice (First.here {x = may j} h) = absurd h
-the-choice (First.later n f) = let (i, j, m) = the-choice f in (i, j, List·Memᴰ·tail m)
+-- in any row 14 is of a choice, both members of which occur
+the-choice : (ks : List ℕ) {row : Row} {l : Line} → First (Doubled ks) row l →
+    (i : ℕ) × (j : ℕ) × List·Memᴰ (oneOf i j) row × (1 ≤ times i ks) × (1 ≤ times j ks)
+the-choice ks (First.here {x = must j} h) = absurd h
+the-choice ks (First.here {x = oneOf i j} (a, b)) = (i, j, List·Memᴰ·head refl, a, b)
+the-choice ks (First.here {x = anyOf i js} h) = absurd h
+the-choice ks (First.here {x = may j} h) = absurd h
+the-choice ks (First.later n f) = let (i, j, m, a, b) = the-choice ks f in (i, j, List·Memᴰ·tail m, a, b)
 
-pub of-a-choice : {row : Row} {xs : List Item} {n d : ℕ} → RowFault row xs n d → n ≡ 14 → (i : ℕ) × (j : ℕ) × List·Memᴰ (oneOf i j) row
+pub of-a-choice : {row : Row} {xs : List Item} {n d : ℕ} → RowFault row xs n d → n ≡ 14 →
+    (i : ℕ) × (j : ℕ) × List·Memᴰ (oneOf i j) row × (1 ≤ times i (keysOf xs)) × (1 ≤ times j (keysOf xs))
 of-a-choice (again before x behind e o m r u) q = absurd (omega arith)
 of-a-choice (missing o f) q = absurd (omega arith)
-of-a-choice (both o e f y) q = the-choice f
+of-a-choice {xs = xs} (both o e f y) q = the-choice (keysOf xs) f

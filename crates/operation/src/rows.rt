@@ -223,7 +223,7 @@ fn judge_invoke(specifier: u8, table: &[u16], count: usize) -> Judged
 }
 
 // The same of the invokes whose rows have a group. They stand apart: as arms among the others they would cost the
-// reading of every other row a jump more.
+// reading by another row a jump more.
 fn judge_page(specifier: u8, table: &[u16], count: usize) -> Judged
     requires { ⌜ (width * count ≤ length (now table)) × (count ≤ 64) × NoneOf specifier (37 ∷ 15 ∷ 13 ∷ 4 ∷ []) ⌝ }
     ensures { λ r. ⌜ judgedIn r ≡ verdict 0xE9 specifier (itemsFrom (now (table .entry)) 0 count) ⌝ }
