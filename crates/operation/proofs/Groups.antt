@@ -9,23 +9,15 @@ use Rattle.operation.specs.Rows.{Operation, operations}
 use Rattle.operation.specs.Book.{Each, none, more, times, Once}
 use Rattle.operation.specs.Faults.{keysOf, First, Unmet, Doubled, RowFault, again, missing, both}
 use Rattle.operation.specs.Demands.{RowFor, listed, unasked}
-use Rattle.operation.proofs.Lines.{all, of-all}
+use Rattle.operation.proofs.Lines.{all, of-all, of-each, each-of}
 
 -- in any row: a group's members meet it, each alone and with others, and nothing else does
-one-meets : (ks : List ℕ) {j : ℕ} {js : List ℕ} → List·Memᴰ j js → 1 ≤ times j ks → Each (λ i. times i ks ≡ 0) js → ⊥
-one-meets ks {js = i ∷ js} (List·Memᴰ·head q) o (more z e) = let p : 1 ≤ times i ks = rw (sym q) o in omega arith
-one-meets ks (List·Memᴰ·tail m) o (more z e) = one-meets ks m o e
-
-none-meets : (ks js : List ℕ) → ((j : ℕ) → List·Memᴰ j js → times j ks ≡ 0) → Each (λ i. times i ks ≡ 0) js
-none-meets ks [] h = none
-none-meets ks (j ∷ js) h = more (h j (List·Memᴰ·head refl)) (none-meets ks js λ i m. h i (List·Memᴰ·tail m))
-
 module _ (ks : List ℕ) (i : ℕ) (js : List ℕ) where
   pub each-meets : {j : ℕ} → List·Memᴰ j (i ∷ js) → 1 ≤ times j ks → Unmet ks (anyOf i js) → ⊥
-  each-meets m o u = one-meets ks m o u
+  each-meets m o u = let z = of-each (λ i. times i ks ≡ 0) u m in omega arith
 
   pub only-members-meet : ((j : ℕ) → List·Memᴰ j (i ∷ js) → times j ks ≡ 0) → Unmet ks (anyOf i js)
-  only-members-meet h = none-meets ks (i ∷ js) h
+  only-members-meet h = each-of (λ i. times i ks ≡ 0) (i ∷ js) h
 
 -- 13 gives it by its first member
 pub by-its-first : {row : Row} {xs : List Item} {i : ℕ} {js : List ℕ} → Once row (keysOf xs) →

@@ -7,6 +7,7 @@ use lib.Dec.{eqb}
 use borrow.Author.Tests.{eq-eqb}
 use Rattle.element.specs.Octets.{if}
 use Rattle.operation.specs.Row.{Line, must, oneOf, anyOf, may, Item, members, someOf, among, onLine}
+use Rattle.operation.specs.Book.{Each, none, more}
 use Rattle.operation.specs.Judge.{occurs, met, doubled, lastMark, remark}
 
 pub or-false : (a b : Bool) → (a || b) ≡ false → (a ≡ false) × (b ≡ false)
@@ -26,6 +27,15 @@ pub of-all : {A : Type 0} (test : A → Bool) {x : A} {xs : List A} → List·Me
 unfolding all
 of-all test {xs = y ∷ xs} (List·Memᴰ·head q) e = rw q (each (test y) _ e .0)
 of-all test {xs = y ∷ xs} (List·Memᴰ·tail m) e = of-all test m (each (test y) _ e .1)
+
+-- what holds of each holds of a member, and the other way round
+pub of-each : {A : Type 0} (P : A → Type 0) {x : A} {xs : List A} → Each P xs → List·Memᴰ x xs → P x
+of-each P (more h e) (List·Memᴰ·head q) = rw q h
+of-each P (more h e) (List·Memᴰ·tail m) = of-each P e m
+
+pub each-of : {A : Type 0} (P : A → Type 0) (xs : List A) → ((x : A) → List·Memᴰ x xs → P x) → Each P xs
+each-of P [] h = none
+each-of P (x ∷ xs) h = more (h x (List·Memᴰ·head refl)) (each-of P xs λ y m. h y (List·Memᴰ·tail m))
 
 pub self : (k : ℕ) → eqb k k ≡ true
 self k = eq-eqb k k refl

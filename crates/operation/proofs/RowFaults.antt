@@ -1,7 +1,7 @@
 -- A row accepts a run exactly where the run fits the table as the book words it, and refuses with the fault that the run has, and with no other.
 use Prim.Native.Nat.{ℕ, _+_, _<_, _≤_}
 use mathlib.Core.Path.{_≡_, refl, sym, ap, _∙_}
-use mathlib.Core.Bool.{Bool, true, false, _&&_, _||_, not, true≢false, or-true}
+use mathlib.Core.Bool.{Bool, true, false, _&&_, _||_, not, true≢false}
 use mathlib.Core.List.{List, [], _∷_, _++_, append-assoc, append-nil, List·Memᴰ, List·Memᴰ·head, List·Memᴰ·tail, Memᴰ·append-right}
 use mathlib.Core.Logic.{_⊎_, inl, inr, ⊎-elim, _↔_}
 use lib.Dec.{leb, eqb}
@@ -15,7 +15,7 @@ use Rattle.operation.specs.Row.{Row, Line, must, oneOf, anyOf, may, asks
 use Rattle.operation.specs.Judge.{occurs, lastMark, once, met, present, doubled, single, judge}
 use Rattle.operation.specs.Book.{times, Kept, occurred, first, second, any, allowed, Each, none, more, Once, Fits}
 use Rattle.operation.specs.Faults.{keysOf, First, Last, Unmet, Doubled, RowFault, again, missing, both}
-use Rattle.operation.proofs.Lines.{or-false, each, self}
+use Rattle.operation.proofs.Lines.{or-false, each, of-each, self}
 
 -- ---- what occurs
 -- what occurs is counted
@@ -269,23 +269,13 @@ none-on i j none = refl
 none-on i j (more {x = y} h e) = rw (or-false (eqb (y .is) i) _ (other _ h) .0) (none-on i j e)
 
 -- of a group one occurs, or all are absent
-some-of : (ks js : List ℕ) → (Each (λ j. times j ks ≡ 0) js → ⊥) → (j : ℕ) × (among js j ≡ true) × (1 ≤ times j ks)
-unfolding among someOf
+some-of : (ks js : List ℕ) → (Each (λ j. times j ks ≡ 0) js → ⊥) → (j : ℕ) × List·Memᴰ j js × (1 ≤ times j ks)
 some-of ks [] h = absurd (h none)
 some-of ks (j ∷ js) h = go (decLe 1 (times j ks)) λ z. some-of ks js λ e. h (more z e)
   where
-    go : Dec (1 ≤ times j ks) → (times j ks ≡ 0 → (i : ℕ) × (among js i ≡ true) × (1 ≤ times i ks)) → (i : ℕ) × ((eqb i j || among js i) ≡ true) × (1 ≤ times i ks)
-    go (yes a) f = (j, rw (self j), a)
-    go (no a) f = let (i, m, o) = f (omega arith) in (i, rw m (or-true (eqb i j)), o)
-
-absent-all : (ks : List ℕ) {js : List ℕ} (j : ℕ) → Each (λ i. times i ks ≡ 0) js → among js j ≡ true → times j ks ≡ 0
-unfolding among someOf
-absent-all ks j none m = absurd (true≢false (sym m))
-absent-all ks j (more {x = i} {xs = js} z n) m = by (eqb j i) refl m (absent-all ks j n)
-  where
-    by : (t : Bool) → eqb j i ≡ t → (t || among js j) ≡ true → (among js j ≡ true → times j ks ≡ 0) → times j ks ≡ 0
-    by true e h f = rw (eqb-true j i e) z
-    by false e h f = f h
+    go : Dec (1 ≤ times j ks) → (times j ks ≡ 0 → (i : ℕ) × List·Memᴰ i js × (1 ≤ times i ks)) → (i : ℕ) × List·Memᴰ i (j ∷ js) × (1 ≤ times i ks)
+    go (yes a) f = (j, List·Memᴰ·head refl, a)
+    go (no a) f = let (i, m, o) = f (omega arith) in (i, List·Memᴰ·tail m, o)
 
 -- a line is kept where something meets it and not both of a choice do
 kept-so : {ks : List ℕ} (l : Line) → (Unmet ks l → ⊥) → (Doubled ks l → ⊥) → Kept ks l
@@ -308,7 +298,7 @@ wrong-so : {ks : List ℕ} {l : Line} → Kept ks l → (Unmet ks l → ⊥) × 
 wrong-so (occurred j h) = (λ z. omega arith, λ z. z)
 wrong-so (first i j h z) = (λ u. omega arith, λ d. omega arith)
 wrong-so (second i j z h) = (λ u. omega arith, λ d. omega arith)
-wrong-so {ks} (any i js j m o) = (λ z. let a = absent-all ks j z m in omega arith, λ z. z)
+wrong-so {ks} (any i js j m o) = (λ z. let a = of-each (λ i. times i ks ≡ 0) z m in omega arith, λ z. z)
 wrong-so (allowed j) = (λ z. z, λ z. z)
 
 all-kept : {ks : List ℕ} {ls : Row} → Each (λ l. Unmet ks l → ⊥) ls → Each (λ l. Doubled ks l → ⊥) ls → Each (Kept ks) ls

@@ -2,10 +2,10 @@
 use Prim.Native.Nat.{ℕ, _+_, _≤_}
 use mathlib.Core.Path.{_≡_}
 use mathlib.Core.Bool.{true, false}
-use mathlib.Core.List.{List, [], _∷_}
+use mathlib.Core.List.{List, [], _∷_, List·Memᴰ}
 use lib.Dec.{eqb}
 use Rattle.element.specs.Octets.{if}
-use Rattle.operation.specs.Row.{Row, Line, must, oneOf, anyOf, may, among, named, repeats}
+use Rattle.operation.specs.Row.{Row, Line, must, oneOf, anyOf, may, named, repeats}
 
 unfoldable pub times : ℕ → List ℕ → ℕ
 times k [] = 0
@@ -16,7 +16,7 @@ pub data Kept (ks : List ℕ) : Line → Type 0 where
   first : (i j : ℕ) → 1 ≤ times i ks → times j ks ≡ 0 → Kept ks (oneOf i j)
   second : (i j : ℕ) → times i ks ≡ 0 → 1 ≤ times j ks → Kept ks (oneOf i j)
   -- several of a group may occur
-  any : (i : ℕ) (js : List ℕ) (j : ℕ) → among (i ∷ js) j ≡ true → 1 ≤ times j ks → Kept ks (anyOf i js)
+  any : (i : ℕ) (js : List ℕ) (j : ℕ) → List·Memᴰ j (i ∷ js) → 1 ≤ times j ks → Kept ks (anyOf i js)
   allowed : (j : ℕ) → Kept ks (may j)
 
 pub data Each {A : Type 0} (P : A → Type 0) : List A → Type 0 where
