@@ -11,6 +11,8 @@ rm -rf "$dir"
 mkdir "$dir" || exit 1
 corpus=crates/corpus/stdin
 corpus_listed=crates/corpus/stdout
+package_corpus=crates/packages/stdin
+package_corpus_listed=crates/packages/stdout
 # The example 4,096 times, whose listing is longer than a pipe holds.
 long=$dir/long.fields
 cp examples/morning.fields "$long" || exit 1
@@ -33,7 +35,7 @@ expect() { # WHAT STATUS WANTED WORDS
 same() { # WHAT FILE FILE
     if cmp -s "$2" "$3"; then passed=$((passed + 1)); else say "$1: $2 is not as $3"; wrong=$((wrong + 1)); fi
 }
-usage='usage: ./roadquill FILE, or ./roadquill < FILE'
+usage='usage: ./roadquill [--packages] FILE, or ./roadquill [--packages] < FILE'
 unread='roadquill: the input cannot be read'
 unwritten='roadquill: the listing cannot be written'
 
@@ -46,6 +48,12 @@ same '--help' "$dir/first" "$dir/usage"
 expect 'an unknown option' $? 2 "roadquill: there is no option --list; $usage"
 ./roadquill "$corpus" "$corpus" 2>"$dir/said"
 expect 'two files' $? 2 "roadquill: $usage"
+./roadquill --packages --list 2>"$dir/said"
+expect 'an unknown option behind --packages' $? 2 "roadquill: there is no option --list; $usage"
+./roadquill "$corpus" --packages 2>"$dir/said"
+expect '--packages behind a file' $? 2 "roadquill: $usage"
+./roadquill --packages "$package_corpus" "$package_corpus" 2>"$dir/said"
+expect 'two files with --packages' $? 2 "roadquill: $usage"
 
 # where the program has to be built first it says so, and from here on it need not
 ./roadquill "$corpus" >"$dir/listed" || die 'the listing was not built'
@@ -70,6 +78,42 @@ printf '%s\n' 'item answer detail named other' '1 0 0 0 0' '2 0 0 0 1' '3 21 5 0
 ./roadquill "$dir/failures" >"$dir/listed" 2>"$dir/said"
 expect 'errors and rejects' $? 0 ''
 same 'errors and rejects' "$dir/listed" "$dir/failures_listed"
+
+# packages, by a program of their own, which is built first where it has to be
+./roadquill --packages "$package_corpus" >"$dir/listed" || die 'the listing of packages was not built'
+./roadquill --packages "$package_corpus" >"$dir/listed" 2>"$dir/said"
+expect 'a file of packages' $? 0 ''
+same 'a file of packages' "$dir/listed" "$package_corpus_listed"
+./roadquill --packages <"$package_corpus" >"$dir/listed" 2>"$dir/said"
+expect 'packages on standard input' $? 0 ''
+same 'packages on standard input' "$dir/listed" "$package_corpus_listed"
+./roadquill --packages examples/packages.fields >"$dir/listed" 2>"$dir/said"
+expect 'the example of packages' $? 0 ''
+cat >"$dir/example" <<'END'
+item answer detail type components
+1 0 0 226 1
+ 10 0 0 5 0
+2 0 0 228 2
+ 10 0 0 1 0
+ 19 0 0 0 0
+3 0 0 229 1
+ 14 0 0 0 1
+4 24 14 0 0
+5 13 5 0 0
+6 22 8 0 0
+7 23 8 0 0
+END
+same 'the example of packages' "$dir/listed" "$dir/example"
+./roadquill --packages "$corpus" >"$dir/listed" 2>"$dir/said"
+expect 'a file without packages' $? 0 ''
+printf '%s\n' 'item answer detail type components' cut >"$dir/none_listed"
+same 'a file without packages' "$dir/listed" "$dir/none_listed"
+./roadquill --packages "$dir/none" 2>"$dir/said"
+expect 'a file of packages that is not there' $? 1 "roadquill: there is no file $dir/none"
+./roadquill --packages <docs 2>"$dir/said" >"$dir/listed"
+expect 'a folder as standard input, with --packages' $? 1 "$unread: Is a directory"
+./roadquill --packages "$package_corpus" >&- 2>"$dir/said"
+expect 'standard output closed, with --packages' $? 4 "$unwritten: standard output is closed"
 
 ./roadquill "$dir/none" 2>"$dir/said"
 expect 'a file that is not there' $? 1 "roadquill: there is no file $dir/none"

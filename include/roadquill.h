@@ -1,22 +1,25 @@
 /*
  * Roadquill: a proved reader and writer of one ANSI-41 component, INVOKE
- * (LAST), RETURN RESULT (LAST), RETURN ERROR or REJECT. The library is
- * target/staticlib/libroadquill.a, for x86-64; it calls memcpy and memset,
- * allocates nothing and keeps nothing between two calls.
+ * (LAST), RETURN RESULT (LAST), RETURN ERROR or REJECT, and of whole packages
+ * of one to eight components. The library is target/staticlib/libroadquill.a,
+ * for x86-64; it calls memcpy and memset, allocates nothing and keeps nothing
+ * between two calls.
  *
- * Octets are those of a component; numbers are the 16-bit numbers of a table.
- * A pointer is never null, also where its count is 0; a table is aligned as
- * uint16_t is; and the buffer that a call may change overlaps no other.
+ * Octets are those of a component or a package; numbers are the 16-bit numbers
+ * of a table; summaries are 64-bit numbers, one for each component of a
+ * package. A pointer is never null, also where its count is 0; a table is
+ * aligned as uint16_t is, summaries as uint64_t is; and a buffer that a call
+ * may change overlaps no other.
  *
  * A component's code is two octets: an INVOKE's specifier, the specifier that
  * is handed in with a RESULT or an ERROR's error octet, each with 0 as the
  * second, or a REJECT's two problem octets.
  *
  * A length is one octet 00 to 7F, 81 and one octet, or 82 and two, high first.
- * The reader takes each form for any length that it can say; the writer writes
- * the shortest. So what was read, written again from the component it was read
- * from, is never longer, and is the same octets exactly when every length was
- * already shortest.
+ * The readers take each form for any length that it can say; the writers write
+ * the shortest. So what was read, written again from the component or package
+ * it was read from, is never longer, and is the same octets exactly when every
+ * length was already shortest.
  */
 #ifndef ROADQUILL_H
 #define ROADQUILL_H
@@ -34,13 +37,25 @@ extern "C" {
 #define ROADQUILL_ERROR 0xEB
 #define ROADQUILL_REJECT 0xEC
 
-/* The most that a component has. */
+/* Package types; QUERY and CONVERSATION are with permission, unless it is said. */
+#define ROADQUILL_UNIDIRECTIONAL 0xE1
+#define ROADQUILL_QUERY 0xE2
+#define ROADQUILL_QUERY_WITHOUT 0xE3
+#define ROADQUILL_RESPONSE 0xE4
+#define ROADQUILL_CONVERSATION 0xE5
+#define ROADQUILL_CONVERSATION_WITHOUT 0xE6
+
+/* The most that a component has, and that a package has: as many octets, and so many components. */
 #define ROADQUILL_OCTETS 4096
 #define ROADQUILL_PARAMETERS 64
+#define ROADQUILL_COMPONENTS 8
 
 /* The numbers of an entry, and the least that a reader's table has: an entry for each parameter. */
 #define ROADQUILL_ENTRY_NUMBERS 5
 #define ROADQUILL_NUMBERS (ROADQUILL_PARAMETERS * ROADQUILL_ENTRY_NUMBERS)
+
+/* The least that a package's table has: ROADQUILL_NUMBERS for each component, the first one's first. */
+#define ROADQUILL_PACKAGE_NUMBERS (ROADQUILL_COMPONENTS * ROADQUILL_NUMBERS)
 
 /* The octets of the longest name of an error, UnrecognizedParameterValue. */
 #define ROADQUILL_ERROR_NAME_OCTETS 26
@@ -51,7 +66,8 @@ extern "C" {
  */
 enum {
     ROADQUILL_ACCEPTED = 0,
-    ROADQUILL_TABLE = 1,        /* table too short: reader under 320 numbers, writer under 5 per entry; 0 */
+    ROADQUILL_TABLE = 1,        /* table too short: reader under 320 numbers, writer under 5 per entry;
+                                   packages, both: under 2,560, or the reader lent under 8 summaries; 0 */
     ROADQUILL_SIZE = 2,         /* input empty or over 4,096 octets; 0 */
     ROADQUILL_TYPE = 3,         /* component type not E9, EA, EB or EC; 0 */
     ROADQUILL_LENGTH = 4,       /* length field of wrong form, or cut by its parent's end; place of that
@@ -76,14 +92,23 @@ enum {
                                    and a group give their first */
     ROADQUILL_BOTH = 14,        /* both members of a choice occur (those of a group may); place of the later,
                                    writer its entry */
-    ROADQUILL_TOO_LONG = 15,    /* writer: component would pass 4,096 octets; octets it would need */
+    ROADQUILL_TOO_LONG = 15,    /* writer: component or package would pass 4,096 octets; octets it would
+                                   need */
     ROADQUILL_ENTRY = 16,       /* writer: number over 16,383, form over 1, or contents outside the source;
                                    the lowest such entry */
     ROADQUILL_OUTPUT = 17,      /* writer: output too short; octets needed. So for an error's name */
     ROADQUILL_NUMBER = 18,      /* reader: parameter number over 16,383; its place (two octets hold no
                                    such number and a longer run is 9, so no reading gives it) */
-    ROADQUILL_PROBLEM = 21      /* reader: wrong error or problem element or its length: an ERROR's not D4
+    ROADQUILL_PROBLEM = 21,     /* reader: wrong error or problem element or its length: an ERROR's not D4
                                    with length 1, a REJECT's not D5 with length 2; place of the element */
+    ROADQUILL_LAYOUT = 22,      /* package layout: type not E1 to E6 (0), or C7 with the type's count of ID
+                                   octets (E1 none; E2, E3, E4 4; E5, E6 8), then E8 and nothing else: the
+                                   element, or where it is wanted; or any fault that is 4 or 5 in a
+                                   component, of these elements and of the components' lengths in E8, with
+                                   the places of 4 and 5; writer: type or count of ID octets, 0 */
+    ROADQUILL_COUNT = 23,       /* no component in the package, or more than 8; place of E8, writer 0 */
+    ROADQUILL_PACKAGE = 24      /* Table 2 of X.S0004-540 does not let this package carry a component; place
+                                   of the first such, writer its index from 0 */
 };
 
 /*
@@ -122,6 +147,57 @@ uint64_t roadquill_write(uint8_t type, uint8_t id_count, uint8_t id_first, uint8
                          size_t source_octets, uint8_t *output, size_t output_octets);
 
 /*
+ * Reads a package of `octets` octets. `specifiers` holds eight, the first
+ * component's in the least significant octet: a RESULT is of the operation
+ * that its own says, and so are an ERROR and a REJECT where Table 2 is asked;
+ * an INVOKE names its operation itself. Where the package is accepted,
+ * component i (from 0) fills the numbers from ROADQUILL_NUMBERS * i on as
+ * roadquill_read fills a table, its starts and places counted from the
+ * package's start, and components[i] with its summary, which is what
+ * roadquill_read gives for it alone. Numbers and summaries that are not filled
+ * stay, between and behind.
+ *
+ * Asked in this order: 1, 2, 22 up to the end of E8, 23, then each component in
+ * turn, of which the first that is refused gives its own answer, then 24. A
+ * component's detail is a place in the package, but 3, 13 and a RESULT's 11
+ * keep theirs. No INVOKE or RESULT that has a row, and no ERROR or REJECT, is
+ * carried by UNIDIRECTIONAL or by what is without permission: such a package
+ * is refused.
+ *
+ * Octet 0 (least significant) of the result is the answer. Refused: octets 1
+ * to 4 are the detail, the rest 0. Accepted: octet 1 is the package type, octet
+ * 2 the count of transaction ID octets, octets 3 and 4 the place of the first
+ * of them, least significant octet first, octet 5 the count of components, the
+ * rest 0.
+ */
+uint64_t roadquill_read_package(const uint8_t *package, size_t octets, uint64_t specifiers,
+                                uint16_t *table, size_t numbers, uint64_t *components,
+                                size_t summaries);
+
+/*
+ * Writes a package of the type with these transaction ID octets and so many
+ * components as there are summaries. Of each summary the type, the ID octets
+ * and their count, the code and the count of all parameters are used, and its
+ * entries are those from ROADQUILL_NUMBERS * i on in the table, with starts and
+ * lengths in the source, which all components share. An INVOKE is written with
+ * its code; of a RESULT the code is not looked at, and its specifier of the
+ * eight finds its row. Table 2 is asked as in reading. Only the counted leading
+ * octets of the output change.
+ *
+ * Asked in this order: 1, 22, 23, then each component in turn as
+ * roadquill_write asks, with its details and without 17, then 24, then 15 and
+ * 17 of the package.
+ *
+ * Octet 0 (least significant) of the result is the answer. Octets 1 to 4 are
+ * the detail or, accepted, the octet count; the rest is 0.
+ */
+uint64_t roadquill_write_package(uint8_t type, const uint8_t *ids, size_t id_octets,
+                                 const uint64_t *components, size_t summaries,
+                                 uint64_t specifiers, const uint16_t *table, size_t numbers,
+                                 const uint8_t *source, size_t source_octets, uint8_t *output,
+                                 size_t output_octets);
+
+/*
  * Puts the name of an error octet, as Table 6 of N.S0010 has it, at the start
  * of the buffer, in ASCII and with no octet to end it. The octets behind it
  * stay. A code that the table reserves has a name of no octets.
@@ -158,7 +234,7 @@ static inline uint32_t roadquill_octets_written(uint64_t result)
     return roadquill_detail(result);
 }
 
-/* Of an accepted reading: */
+/* Of an accepted reading of a component, or of a component's summary: */
 
 static inline uint8_t roadquill_type(uint64_t result)
 {
@@ -204,6 +280,29 @@ static inline unsigned roadquill_named(uint64_t result)
 static inline unsigned roadquill_other(uint64_t result)
 {
     return roadquill_all(result) - roadquill_named(result);
+}
+
+/* Of an accepted reading of a package: */
+
+static inline uint8_t roadquill_package_type(uint64_t result)
+{
+    return roadquill_octet(result, 1);
+}
+
+/* How many transaction ID octets there are, and the place of the first. */
+static inline unsigned roadquill_transaction_octets(uint64_t result)
+{
+    return roadquill_octet(result, 2);
+}
+
+static inline unsigned roadquill_transaction_place(uint64_t result)
+{
+    return (unsigned)(result >> 24 & 0xFFFF);
+}
+
+static inline unsigned roadquill_component_count(uint64_t result)
+{
+    return roadquill_octet(result, 5);
 }
 
 #ifdef __cplusplus

@@ -1,15 +1,16 @@
 /*
- * Calls one function on one component, so many times: what ./bench measures.
+ * Calls one function on one component or one package, so many times: what ./bench measures.
  *
  *   caller count FUNCTION CASE ROUNDS [FILE]   so many rounds, and nothing else
  *   caller marked FUNCTION CASE [FILE]         a round between two calls of `mark`, after one that warms up
  *   caller time FUNCTION CASE [FILE]           nanoseconds a call
- *   caller size CASE [FILE]                    octets, parameters, components
+ *   caller size CASE [FILE]                    octets, parameters, calls a round
  *   caller stack FUNCTION CASE [FILE]          how deep a call touched the stack at most, in octets
  *
- * FUNCTION is read, write, plain, tuned or none. CASE is a name from `make`, or `mixed`:
- * the reads of a stream of the second program, 7 accepted for 3 refused, and
- * for the writer its writes. No buffer is cleared between two calls.
+ * FUNCTION is read, write, plain, tuned, compose (the plain C writer) or none. CASE is a name from `make`; or `mixed`:
+ * the reads of a stream of the second program, 7 accepted for 3 refused, and for the writer its writes; or `package-`
+ * and a name from `make_sequence`, where the functions are those of a package; or `alone-` and such a name: a round
+ * calls those of a component on each that the package holds. No buffer is cleared between two calls.
  */
 #define _POSIX_C_SOURCE 199309L
 #include "roadquill.h"
@@ -23,8 +24,22 @@ extern uint64_t plain_read(const uint8_t *component, size_t octets, uint8_t spec
                            uint16_t *table, size_t numbers);
 extern uint64_t tuned_read(const uint8_t *component, size_t octets, uint8_t specifier,
                            uint16_t *table, size_t numbers);
+extern uint64_t plain_write(uint8_t type, uint8_t id_count, uint8_t id_first, uint8_t id_second,
+                            uint8_t code_first, uint8_t code_second, size_t entries,
+                            const uint16_t *table, size_t numbers, const uint8_t *source,
+                            size_t source_octets, uint8_t *output, size_t output_octets);
+extern uint64_t plain_read_package(const uint8_t *package, size_t octets, uint64_t specifiers,
+                                   uint16_t *table, size_t numbers, uint64_t *components, size_t summaries);
+extern uint64_t tuned_read_package(const uint8_t *package, size_t octets, uint64_t specifiers,
+                                   uint16_t *table, size_t numbers, uint64_t *components, size_t summaries);
+extern uint64_t plain_write_package(uint8_t type, const uint8_t *ids, size_t id_octets,
+                                    const uint64_t *components, size_t summaries, uint64_t specifiers,
+                                    const uint16_t *table, size_t numbers, const uint8_t *source,
+                                    size_t source_octets, uint8_t *output, size_t output_octets);
 
 #define MOST 2000
+#define COMPONENTS 8
+#define PACKAGE_NUMBERS (COMPONENTS * ROADQUILL_NUMBERS)
 
 /* A call: a reading of `octets`, and the writing that goes with it. */
 struct call {
@@ -158,9 +173,18 @@ static size_t numbers_of(unsigned *numbers, const unsigned *wanted, size_t wante
     return count;
 }
 
+/* HandoffBack INVOKE: so many parameters, so many octets. */
+static const unsigned back[] = { 5, 6, 8, 2, 3, 1 };
+
+static void make_back(size_t parameters, size_t total)
+{
+    unsigned numbers[64];
+
+    component(ROADQUILL_INVOKE, 4, numbers, numbers_of(numbers, back, 6, parameters, 0), 0, total);
+}
+
 static void make(const char *name)
 {
-    static const unsigned back[] = { 5, 6, 8, 2, 3, 1 };
     static const unsigned location[] = { 1, 21, 22 };
     static const unsigned page[] = { 105, 153 };
     unsigned numbers[64];
@@ -194,11 +218,9 @@ static void make(const char *name)
         memcpy(made, chart, sizeof chart);
         made_count = sizeof chart;
     } else if (strcmp(name, "272-octets") == 0) {
-        count = numbers_of(numbers, back, 6, 20, 0);
-        component(ROADQUILL_INVOKE, 4, numbers, count, 0, 272);
+        make_back(20, 272);
     } else if (strcmp(name, "4096-octets") == 0) {
-        count = numbers_of(numbers, back, 6, 64, 0);
-        component(ROADQUILL_INVOKE, 4, numbers, count, 0, 4096);
+        make_back(64, 4096);
     } else if (strcmp(name, "61-digits") == 0) {
         count = numbers_of(numbers, location, 3, 64, 4);
         component(ROADQUILL_INVOKE, 15, numbers, count, 3, 0);
@@ -219,23 +241,23 @@ static void make(const char *name)
     }
 }
 
-/* The writing that returns the component, its lengths in the shortest form:
- * what the reader shows of it. */
-static void add_component(const char *name)
+/* A call of the component's functions: its reading, and the writing that
+ * returns it, its lengths in the shortest form: what the reader shows of it. */
+static void add_component(const uint8_t *octets, size_t count)
 {
-    static uint16_t entries[ROADQUILL_NUMBERS];
+    static uint16_t each[COMPONENTS][ROADQUILL_NUMBERS];
+    uint16_t *entries = each[call_count];
     struct call *c = &calls[call_count++];
     uint64_t got;
 
-    make(name);
-    c->octets = made;
-    c->count = made_count;
+    c->octets = octets;
+    c->count = count;
     c->specifier = 101;
-    got = roadquill_read(made, made_count, c->specifier, entries, ROADQUILL_NUMBERS);
+    got = roadquill_read(octets, count, c->specifier, entries, ROADQUILL_NUMBERS);
     if (roadquill_answer(got) != ROADQUILL_ACCEPTED)
         stop("a case is not accepted");
-    if (got != plain_read(made, made_count, c->specifier, table, ROADQUILL_NUMBERS)
-        || got != tuned_read(made, made_count, c->specifier, table, ROADQUILL_NUMBERS))
+    if (got != plain_read(octets, count, c->specifier, table, ROADQUILL_NUMBERS)
+        || got != tuned_read(octets, count, c->specifier, table, ROADQUILL_NUMBERS))
         stop("the readers differ");
     c->head[0] = roadquill_type(got);
     c->head[1] = roadquill_id_count(got);
@@ -246,9 +268,139 @@ static void add_component(const char *name)
     c->entries = roadquill_all(got);
     c->table = entries;
     c->numbers = ROADQUILL_NUMBERS;
-    c->source = made;
-    c->source_octets = made_count;
+    c->source = octets;
+    c->source_octets = count;
     c->output_octets = sizeof output;
+}
+
+/* ---- packages */
+
+/* A call of the package's functions: its octets, where its components start and where the last of them ends, and what
+ * the reader shows of it, from which it is written again. */
+static struct {
+    size_t octets;
+    size_t count;
+    size_t starts[COMPONENTS + 1];
+    size_t parameters;
+    uint64_t summaries[COMPONENTS];
+    uint16_t entries[PACKAGE_NUMBERS];
+} package;
+
+static uint64_t summaries[COMPONENTS];
+static const uint8_t transaction[] = { 0, 0, 0, 1 };
+
+#define QUERY 0xE2
+#define SPECIFIERS 0x6565656565656565  /* of InterSystemSMSPage: no INVOKE looks at them */
+
+/* The components of the sequence, one behind the other in `sequence`: how many octets. */
+static size_t make_sequence(const char *name, uint8_t *sequence)
+{
+    size_t octets = 0, i;
+
+    package.count = strcmp(name, "A") == 0 ? 1 : COMPONENTS;
+    for (i = 0; i < package.count; i++) {
+        if (strcmp(name, "A") == 0 || strcmp(name, "8A") == 0)
+            make("chart-A");
+        else if (strcmp(name, "4096") == 0)
+            make_back(64, i < 6 ? 510 : 511);  /* with 14 octets around them 4,096 */
+        else
+            stop("no such package");
+        memcpy(sequence + octets, made, made_count);
+        package.starts[i] = octets;
+        octets += made_count;
+    }
+    package.starts[i] = octets;
+    return octets;
+}
+
+/* A QUERY WITH PERMISSION of these components. */
+static void make_package(const char *name)
+{
+    static uint8_t sequence[ROADQUILL_OCTETS];
+    size_t octets = make_sequence(name, sequence), i;
+
+    made_count = 0;
+    put(QUERY);
+    put_length(2 + sizeof transaction + 1 + field(octets) + octets);
+    put(0xC7), put(sizeof transaction);
+    for (i = 0; i < sizeof transaction; i++)
+        put(transaction[i]);
+    put(0xE8);
+    put_length(octets);
+    for (i = 0; i <= package.count; i++)
+        package.starts[i] += made_count;
+    memcpy(made + made_count, sequence, octets);
+    made_count += octets;
+    package.octets = made_count;
+}
+
+static uint64_t call_package(char function)
+{
+    switch (function) {
+    case 'r':
+        return roadquill_read_package(made, package.octets, SPECIFIERS, table, PACKAGE_NUMBERS, summaries, COMPONENTS);
+    case 'w':
+        return roadquill_write_package(QUERY, transaction, sizeof transaction, package.summaries, package.count,
+                                       SPECIFIERS, package.entries, PACKAGE_NUMBERS, made, package.octets, output,
+                                       sizeof output);
+    case 'p':
+        return plain_read_package(made, package.octets, SPECIFIERS, table, PACKAGE_NUMBERS, summaries, COMPONENTS);
+    case 't':
+        return tuned_read_package(made, package.octets, SPECIFIERS, table, PACKAGE_NUMBERS, summaries, COMPONENTS);
+    case 'c':
+        return plain_write_package(QUERY, transaction, sizeof transaction, package.summaries, package.count,
+                                   SPECIFIERS, package.entries, PACKAGE_NUMBERS, made, package.octets, output,
+                                   sizeof output);
+    default:
+        return 0;
+    }
+}
+
+/* That a reader answers so, and fills as ours did; and that a writer returns the octets. */
+
+static void check_read(char function, uint64_t got)
+{
+    if (call_package(function) != got || memcmp(summaries, package.summaries, sizeof summaries) != 0
+        || memcmp(table, package.entries, sizeof package.entries) != 0)
+        stop("the readers of packages differ");
+}
+
+static void check_write(char function)
+{
+    uint64_t got = call_package(function);
+
+    if (got != (uint64_t)package.octets << 8 || memcmp(output, made, package.octets) != 0)
+        stop("a package is not written as it was read");
+}
+
+static void add_package(const char *name)
+{
+    uint64_t got;
+    size_t i;
+
+    make_package(name);
+    got = call_package('r');
+    if (roadquill_answer(got) != ROADQUILL_ACCEPTED)
+        stop("a package is not accepted");
+    memcpy(package.summaries, summaries, sizeof summaries);
+    memcpy(package.entries, table, sizeof package.entries);
+    for (i = 0; i < package.count; i++)
+        package.parameters += roadquill_all(summaries[i]);
+    check_read('p', got);
+    check_read('t', got);
+    check_write('w');
+    check_write('c');
+}
+
+/* Its components, each a call of its own. */
+static void add_alone(const char *name)
+{
+    size_t i;
+
+    make_package(name);
+    for (i = 0; i < package.count; i++)
+        add_component(made + package.starts[i], package.starts[i + 1] - package.starts[i]);
+    package.octets = 0;
 }
 
 /* ---- the stream of the second program */
@@ -390,13 +542,28 @@ static uint64_t call(char function, const struct call *c)
     }
 }
 
+/* The plain C writer has a place of its own: what is counted of the others includes the choice between them. */
+static uint64_t compose(const struct call *c)
+{
+    return plain_write(c->head[0], c->head[1], c->head[2], c->head[3], c->head[4], c->head[5], c->entries, c->table,
+                       c->numbers, c->source, c->source_octets, output, c->output_octets);
+}
+
 static void rounds(char function, unsigned long count)
 {
     size_t i;
 
-    while (count-- > 0)
+    while (count-- > 0) {
         for (i = 0; i < call_count; i++)
-            sink += call(function, &calls[i]);
+            sink += function == 'c' ? compose(&calls[i]) : call(function, &calls[i]);
+        if (package.octets != 0)
+            sink += call_package(function);
+    }
+}
+
+static size_t calls_a_round(void)
+{
+    return call_count + (package.octets != 0);
 }
 
 /* What a trace of the run shows where the round that counts begins and ends. */
@@ -432,7 +599,7 @@ static double nanoseconds(char function)
         double start = seconds(), took;
 
         rounds(function, count);
-        took = (seconds() - start) / (double)count / (double)call_count * 1e9;
+        took = (seconds() - start) / (double)count / (double)calls_a_round() * 1e9;
         if (took < best)
             best = took;
     }
@@ -475,9 +642,19 @@ static __attribute__((noinline)) size_t stack(char function, const struct call *
     return touched(top);
 }
 
+static __attribute__((noinline)) size_t package_stack(char function)
+{
+    uintptr_t top = (uintptr_t)__builtin_frame_address(0);
+
+    sink += call_package(function);
+    paint();
+    sink += call_package(function);
+    return touched(top);
+}
+
 static size_t deepest(char function)
 {
-    size_t most = 0, i;
+    size_t most = package.octets != 0 ? package_stack(function) : 0, i;
 
     for (i = 0; i < call_count; i++) {
         size_t one = stack(function, &calls[i]);
@@ -486,6 +663,28 @@ static size_t deepest(char function)
             most = one;
     }
     return most;
+}
+
+static void add(const char *name, const char *file, char function)
+{
+    if (strcmp(name, "mixed") == 0) {
+        add_stream(file, function == 'w');
+    } else if (strncmp(name, "package-", 8) == 0) {
+        add_package(name + 8);
+    } else if (strncmp(name, "alone-", 6) == 0) {
+        add_alone(name + 6);
+    } else {
+        make(name);
+        add_component(made, made_count);
+    }
+}
+
+static void print_size(void)
+{
+    if (package.octets != 0)
+        printf("%zu %zu 1\n", package.octets, package.parameters);
+    else
+        printf("%zu %zu %zu\n", calls[0].count, calls[0].entries, call_count);
 }
 
 int main(int count, char **words)
@@ -497,10 +696,7 @@ int main(int count, char **words)
     const char *name = count > at ? words[at] : "";
     unsigned long times = strcmp(what, "count") == 0 && count > at + 1 ? strtoul(words[++at], NULL, 10) : 0;
 
-    if (strcmp(name, "mixed") == 0)
-        add_stream(count > at + 1 ? words[at + 1] : "", function == 'w');
-    else
-        add_component(name);
+    add(name, count > at + 1 ? words[at + 1] : "", function);
     if (strcmp(what, "count") == 0) {
         rounds(function, times);
     } else if (strcmp(what, "marked") == 0) {
@@ -511,7 +707,7 @@ int main(int count, char **words)
     } else if (strcmp(what, "time") == 0) {
         printf("%.1f\n", nanoseconds(function));
     } else if (sized) {
-        printf("%zu %zu %zu\n", calls[0].count, calls[0].entries, call_count);
+        print_size();
     } else if (strcmp(what, "stack") == 0) {
         printf("%zu\n", deepest(function));
     } else {

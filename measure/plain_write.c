@@ -6,16 +6,9 @@
  * Packed result: octet 0 is the answer, octets 1 to 4 the detail or, where
  * accepted, the octet count.
  */
-#include <stddef.h>
-#include <stdint.h>
+#include "plain.h"
+
 #include <string.h>
-
-/* Number, form, start, length, and the identifier's place, which is not looked at. */
-#define ENTRY_NUMBERS 5
-
-#define ANSWER(number, detail) ((uint64_t)(number) | (uint64_t)(detail) << 8)
-
-enum { INVOKE = 0xE9, RESULT = 0xEA, ERROR = 0xEB, REJECT = 0xEC };
 
 /* The rows as text: type, specifier, then the numbers. A number with `!` must
  * occur, `a/b!` is a choice, exactly one of which must, and `a+b+c!` a group,
@@ -143,12 +136,12 @@ static uint64_t check_row(const char *row, const uint16_t *table, size_t entries
     return 0;
 }
 
-static size_t with_length(size_t length)
+size_t plain_with_length(size_t length)
 {
     return length + (length > 0xFFFF ? 4 : length > 0xFF ? 3 : length > 0x7F ? 2 : 1);
 }
 
-static uint8_t *put_length(uint8_t *out, size_t length)
+uint8_t *plain_put_length(uint8_t *out, size_t length)
 {
     if (length > 0xFF) {
         *out++ = 0x82;
@@ -172,26 +165,10 @@ static uint8_t *put_entry(uint8_t *out, const uint16_t *entry, const uint8_t *so
             *out++ = (uint8_t)(0x80 | entry[0] >> 7);
         *out++ = entry[0] & 0x7F;
     }
-    out = put_length(out, entry[3]);
+    out = plain_put_length(out, entry[3]);
     memcpy(out, source + entry[2], entry[3]);
     return out + entry[3];
 }
-
-/* The call's values, the octets between ID and set, and the lengths of those,
- * of the set, the body and the whole. */
-struct writing {
-    uint8_t type;
-    uint8_t id_count;
-    uint8_t id[2];
-    uint8_t code[4];
-    size_t code_octets;
-    size_t entries;
-    const uint16_t *table;
-    const uint8_t *source;
-    size_t set;
-    size_t body;
-    size_t whole;
-};
 
 static int is_type(uint8_t type)
 {
@@ -231,17 +208,17 @@ static uint64_t measure(struct writing *w, size_t source_octets)
 
         if (entry[0] > 16383 || entry[1] > 1 || (size_t)entry[2] + entry[3] > source_octets)
             return ANSWER(16, i);
-        w->set += (entry[0] > 127 ? 3 : entry[0] > 30 ? 2 : 1) + with_length(entry[3]);
+        w->set += (entry[0] > 127 ? 3 : entry[0] > 30 ? 2 : 1) + plain_with_length(entry[3]);
     }
-    w->body = 2 + w->id_count + w->code_octets + 1 + with_length(w->set);
-    w->whole = 1 + with_length(w->body);
-    return w->whole > 4096 ? ANSWER(15, w->whole) : 0;
+    w->body = 2 + w->id_count + w->code_octets + 1 + plain_with_length(w->set);
+    w->whole = 1 + plain_with_length(w->body);
+    return w->whole > MAX_OCTETS ? ANSWER(15, w->whole) : 0;
 }
 
-static void compose(const struct writing *w, uint8_t *out)
+uint8_t *plain_compose(const struct writing *w, uint8_t *out)
 {
     *out++ = w->type;
-    out = put_length(out, w->body);
+    out = plain_put_length(out, w->body);
     *out++ = 0xCF;
     *out++ = w->id_count;
     memcpy(out, w->id, w->id_count);
@@ -249,9 +226,29 @@ static void compose(const struct writing *w, uint8_t *out)
     memcpy(out, w->code, w->code_octets);
     out += w->code_octets;
     *out++ = 0xF2;
-    out = put_length(out, w->set);
+    out = plain_put_length(out, w->set);
     for (size_t i = 0; i < w->entries; i++)
         out = put_entry(out, w->table + ENTRY_NUMBERS * i, w->source);
+    return out;
+}
+
+uint64_t plain_weigh(struct writing *w, const uint8_t code[2], size_t numbers, size_t source_octets)
+{
+    uint64_t fault;
+
+    if (!is_type(w->type))
+        return ANSWER(3, 0);
+    if (!id_allowed(w->type, w->id_count))
+        return ANSWER(6, 0);
+    if (w->entries > MAX_PARAMETERS)
+        return ANSWER(10, 0);
+    if (numbers < ENTRY_NUMBERS * w->entries)
+        return ANSWER(1, 0);
+    make_code(w, code[0], code[1]);
+    fault = measure(w, source_octets);
+    if (fault == 0 && has_row(w->type))
+        fault = check_row(find_row(w->type, code[0]), w->table, w->entries);
+    return fault;
 }
 
 uint64_t plain_write(uint8_t type, uint8_t id_count, uint8_t id_first, uint8_t id_second,
@@ -262,24 +259,13 @@ uint64_t plain_write(uint8_t type, uint8_t id_count, uint8_t id_first, uint8_t i
 {
     struct writing w = { type, id_count, { id_first, id_second }, { 0 }, 0,
                          entries, table, source, 0, 0, 0 };
-    uint64_t fault;
+    const uint8_t code[2] = { code_first, code_second };
+    uint64_t fault = plain_weigh(&w, code, numbers, source_octets);
 
-    if (!is_type(type))
-        return ANSWER(3, 0);
-    if (!id_allowed(type, id_count))
-        return ANSWER(6, 0);
-    if (entries > 64)
-        return ANSWER(10, 0);
-    if (numbers < ENTRY_NUMBERS * entries)
-        return ANSWER(1, 0);
-    make_code(&w, code_first, code_second);
-    fault = measure(&w, source_octets);
-    if (fault == 0 && has_row(type))
-        fault = check_row(find_row(type, code_first), table, entries);
     if (fault != 0)
         return fault;
     if (output_octets < w.whole)
         return ANSWER(17, w.whole);
-    compose(&w, output);
+    plain_compose(&w, output);
     return ANSWER(0, w.whole);
 }

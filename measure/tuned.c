@@ -6,19 +6,9 @@
  * paper, and the packed result is that of plain.c. Numbers of the table are
  * stored low octet first, as the machine has them.
  */
-#include <stddef.h>
-#include <stdint.h>
+#include "tuned.h"
+
 #include <string.h>
-
-#define INVOKE 0xE9
-#define RESULT 0xEA
-#define ERROR 0xEB
-#define REJECT 0xEC
-
-#define MAX_OCTETS 4096
-#define MAX_PARAMETERS 64
-#define ENTRY_NUMBERS 5
-#define MIN_NUMBERS (MAX_PARAMETERS * ENTRY_NUMBERS)
 
 #define DIGITS 4
 
@@ -60,35 +50,6 @@ static const struct row rows[] = {
 static const uint8_t invokes[256] = { [4] = 1, [13] = 3, [15] = 6, [32] = 7, [37] = 8, [101] = 10 };
 static const uint8_t results[256] = { [4] = 2, [13] = 4, [14] = EMPTY, [26] = EMPTY, [64] = 9, [101] = 11 };
 
-static uint64_t refusal(unsigned number, size_t detail)
-{
-    return number | (uint64_t)detail << 8;
-}
-
-/* The length field at `at`, which may not pass `end`: the place behind it, 0 where it is wrong. Each form is taken for
- * any length that it can say. */
-static inline size_t length_at(const uint8_t *octets, size_t at, size_t end, size_t *length)
-{
-    unsigned first;
-
-    if (at >= end)
-        return 0;
-    first = octets[at];
-    if (first < 0x80) {
-        *length = first;
-        return at + 1;
-    }
-    if (first == 0x82 && at + 2 < end) {
-        *length = (size_t)octets[at + 1] << 8 | octets[at + 2];
-        return at + 3;
-    }
-    if (first == 0x81 && at + 1 < end) {
-        *length = octets[at + 1];
-        return at + 2;
-    }
-    return 0;
-}
-
 /* The parameter identifier at `at`, below `end`: the place behind it, 0 where it is wrong. */
 static inline size_t identifier_at(const uint8_t *octets, size_t at, size_t end, unsigned *number)
 {
@@ -112,20 +73,26 @@ static inline size_t identifier_at(const uint8_t *octets, size_t at, size_t end,
     return at + 3;
 }
 
-/* The element at *at with this identifier: leaves *at at its contents; else a refusal. */
-static inline uint64_t element_at(const uint8_t *octets, size_t *at, size_t end, uint8_t identifier,
-                                  unsigned number, size_t *length)
+static inline size_t refuse(uint64_t *told, unsigned number, size_t detail)
+{
+    *told = refusal(number, detail);
+    return 0;
+}
+
+/* The element at *at with this identifier: leaves *at at its contents; else 0 and the refusal. */
+static inline size_t element_at(const uint8_t *octets, size_t *at, size_t end, uint8_t identifier,
+                                unsigned number, size_t *length, uint64_t *told)
 {
     size_t place = *at;
 
     if (place >= end)
-        return refusal(5, end);
+        return refuse(told, 5, end);
     if (octets[place] != identifier)
-        return refusal(number, place);
+        return refuse(told, number, place);
     *at = length_at(octets, place + 1, end, length);
     if (*at == 0)
-        return refusal(4, place + 1);
-    return *length > end - *at ? refusal(5, place) : 0;
+        return refuse(told, 4, place + 1);
+    return *length > end - *at ? refuse(told, 5, place) : 1;
 }
 
 /* Whether a word of the one has a bit of the other's. */
@@ -135,55 +102,53 @@ static int any(const uint64_t *seen, const uint64_t *group)
 }
 
 /* 14: the place of the last entry before `entry` that is one of the choice; both are there. */
-static uint64_t both(const uint16_t *entry, const struct row *row)
+static size_t both(const uint16_t *entry, const struct row *row)
 {
     do
         entry -= ENTRY_NUMBERS;
     while (entry[1] != 0 || (entry[0] != row->one && entry[0] != row->other));
-    return refusal(14, entry[4]);
+    return entry[4];
 }
 
-uint64_t tuned_read(const uint8_t *component, size_t octets, uint8_t specifier,
-                    uint16_t *table, size_t numbers)
+/* Reads the component from `from` to `end`; places are those in the octets. Gives how many numbers of the entries are
+ * to be copied, 0 where it refuses, and the packed result. Compiled into each of its two callers, so that a start of 0
+ * costs nothing. */
+static inline __attribute__((always_inline)) size_t read_from(const uint8_t *octets, size_t from, size_t end,
+                                                              uint8_t specifier, uint16_t *entries, uint64_t *told)
 {
-    uint16_t entries[MIN_NUMBERS];
-    uint64_t seen[4] = { 0 }, wrong, id = 0, code = specifier;
+    uint64_t seen[4] = { 0 }, id = 0, code = specifier;
     size_t at, element, length, i, id_count, count = 0, named = 0, again = 0, operation = 0;
     const struct row *row;
     const uint64_t *names;
     unsigned type, which;
 
-    if (numbers < MIN_NUMBERS)
-        return 1;
-    if (octets == 0 || octets > MAX_OCTETS)
-        return 2;
-    type = component[0];
+    type = octets[from];
     if (type < INVOKE || type > REJECT)
-        return 3;
-    at = length_at(component, 1, octets, &length);
+        return refuse(told, 3, 0);
+    at = length_at(octets, from + 1, end, &length);
     if (at == 0)
-        return refusal(4, 1);
-    if (length != octets - at)
-        return refusal(5, length > octets - at ? 0 : at + length);
+        return refuse(told, 4, from + 1);
+    if (length != end - at)
+        return refuse(told, 5, length > end - at ? from : at + length);
     element = at;
-    if ((wrong = element_at(component, &at, octets, 0xCF, 6, &length)) != 0)
-        return wrong;
+    if (!element_at(octets, &at, end, 0xCF, 6, &length, told))
+        return 0;
     if (type == INVOKE ? length > 2 : length != 1 && !(type == REJECT && length == 0))
-        return refusal(6, element);
+        return refuse(told, 6, element);
     id_count = length;
     if (length > 0)
-        id = component[at];
+        id = octets[at];
     if (length > 1)
-        id |= (uint64_t)component[at + 1] << 8;
+        id |= (uint64_t)octets[at + 1] << 8;
     at += length;
     element = at;
     if (type == INVOKE) {
-        if ((wrong = element_at(component, &at, octets, 0xD1, 7, &length)) != 0)
-            return wrong;
-        if (length != 2 || component[at] != 9)
-            return refusal(7, element);
+        if (!element_at(octets, &at, end, 0xD1, 7, &length, told))
+            return 0;
+        if (length != 2 || octets[at] != 9)
+            return refuse(told, 7, element);
         operation = at + 1;
-        code = component[operation];
+        code = octets[operation];
         which = invokes[code];
         at += 2;
     } else if (type == RESULT) {
@@ -191,41 +156,41 @@ uint64_t tuned_read(const uint8_t *component, size_t octets, uint8_t specifier,
     } else {
         size_t wanted = type == ERROR ? 1 : 2;
 
-        if ((wrong = element_at(component, &at, octets, type == ERROR ? 0xD4 : 0xD5, 21, &length)) != 0)
-            return wrong;
+        if (!element_at(octets, &at, end, type == ERROR ? 0xD4 : 0xD5, 21, &length, told))
+            return 0;
         if (length != wanted)
-            return refusal(21, element);
-        code = component[at];
+            return refuse(told, 21, element);
+        code = octets[at];
         if (wanted == 2)
-            code |= (uint64_t)component[at + 1] << 8;
+            code |= (uint64_t)octets[at + 1] << 8;
         which = EMPTY;
         at += wanted;
     }
-    if ((wrong = element_at(component, &at, octets, 0xF2, 8, &length)) != 0)
-        return wrong;
-    if (at + length != octets)
-        return refusal(5, at + length);
+    if (!element_at(octets, &at, end, 0xF2, 8, &length, told))
+        return 0;
+    if (at + length != end)
+        return refuse(told, 5, at + length);
 
     row = &rows[which == 0 ? EMPTY - 1 : which - 1];
     names = row->names;
-    for (; at < octets; count++) {
+    for (; at < end; count++) {
         uint16_t *entry;
         size_t place = at, start;
         uint32_t identifier;
         unsigned number;
 
         if (count == MAX_PARAMETERS)
-            return refusal(10, place);
-        at = identifier_at(component, place, octets, &number);
+            return refuse(told, 10, place);
+        at = identifier_at(octets, place, end, &number);
         if (at == 0)
-            return refusal(9, place);
-        start = length_at(component, at, octets, &length);
+            return refuse(told, 9, place);
+        start = length_at(octets, at, end, &length);
         if (start == 0)
-            return refusal(4, at);
-        if (length > octets - start)
-            return refusal(5, place);
+            return refuse(told, 4, at);
+        if (length > end - start)
+            return refuse(told, 5, place);
         /* number and form at once: the constructor bit, of value 32, goes to the number behind */
-        identifier = number | (component[place] & 0x20u) << 11;
+        identifier = number | (octets[place] & 0x20u) << 11;
         entry = entries + ENTRY_NUMBERS * count;
         memcpy(entry, &identifier, sizeof identifier);
         entry[2] = (uint16_t)start;
@@ -240,19 +205,41 @@ uint64_t tuned_read(const uint8_t *component, size_t octets, uint8_t specifier,
         at = start + length;
     }
     if (which == 0)
-        return refusal(11, operation);
+        return refuse(told, 11, operation);
     if (again != 0)
-        return refusal(12, again);
+        return refuse(told, 12, again);
     for (i = 0; i < row->must_count; i++) {
         unsigned number = row->must[i];
 
         if (!(seen[number / 64] & BIT(number)) && !(number == row->one && seen[row->other / 64] & BIT(row->other)))
-            return refusal(13, number);
+            return refuse(told, 13, number);
     }
     if (row->first != 0 && !any(seen, row->group))
-        return refusal(13, row->first);
+        return refuse(told, 13, row->first);
     if (row->one != 0 && seen[row->one / 64] & BIT(row->one) && seen[row->other / 64] & BIT(row->other))
-        return both(entries + ENTRY_NUMBERS * count, row);
-    memcpy(table, entries, ENTRY_NUMBERS * count * sizeof *table);
-    return (uint64_t)type << 8 | id << 16 | code << 32 | (uint64_t)(id_count << 14 | count << 7 | named) << 48;
+        return refuse(told, 14, both(entries + ENTRY_NUMBERS * count, row));
+    *told = (uint64_t)type << 8 | id << 16 | code << 32 | (uint64_t)(id_count << 14 | count << 7 | named) << 48;
+    return ENTRY_NUMBERS * count;
+}
+
+uint64_t tuned_read(const uint8_t *component, size_t octets, uint8_t specifier,
+                    uint16_t *table, size_t numbers)
+{
+    uint16_t entries[MIN_NUMBERS];
+    uint64_t told;
+    size_t filled;
+
+    if (numbers < MIN_NUMBERS)
+        return 1;
+    if (octets == 0 || octets > MAX_OCTETS)
+        return 2;
+    filled = read_from(component, 0, octets, specifier, entries, &told);
+    memcpy(table, entries, filled * sizeof *table);
+    return told;
+}
+
+size_t tuned_component(const uint8_t *octets, size_t from, size_t end, uint8_t specifier, uint16_t *entries,
+                       uint64_t *told)
+{
+    return read_from(octets, from, end, specifier, entries, told);
 }

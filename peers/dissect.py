@@ -12,6 +12,11 @@ OPTIONS = [
     "-o", "ber.show_internals:TRUE",
 ]
 
+# The element of each package type.
+PACKAGES = {f"ansi_tcap.{name}_element": name for name in (
+    "unidirectional", "queryWithPerm", "queryWithoutPerm", "response", "conversationWithPerm",
+    "conversationWithoutPerm", "abort")}
+
 
 @dataclass
 class Shown:
@@ -26,6 +31,9 @@ class Shown:
 
 @dataclass
 class Seen:
+    package: str = ""
+    ids: str = ""
+    components: list = field(default_factory=list)
     operation: str = ""
     code: str = ""
     missing: list = field(default_factory=list)
@@ -47,6 +55,23 @@ def dissect(folder, cases):
             frames.append(tcap.package(tcap.component(tcap.INVOKE, tcap.first_id(octets), specifier, b""), transaction))
         frames.append(tcap.package(octets, transaction))
         wanted.append((len(frames), len(frames[-1]) - len(octets)))
+    return look(folder, frames, wanted)
+
+
+def dissect_packages(folder, cases):
+    """One Seen for each (package, specifier); where the latter is not None, an INVOKE of it goes before in a QUERY of
+    the same transaction. Places count from the package's start."""
+    frames, wanted = [], []
+    for octets, specifier in cases:
+        if specifier is not None:
+            frames.append(tcap.package(tcap.component(tcap.INVOKE, b"\x05", specifier, b""), tcap.transaction(octets)))
+        frames.append(octets)
+        wanted.append((len(frames), 0))
+    return look(folder, frames, wanted)
+
+
+def look(folder, frames, wanted):
+    """What tshark makes of the frames that are wanted: the number of each, and where it is counted from."""
     path = os.path.join(folder, "frames.pcap")
     tcap.write_pcap(path, frames)
     offsets = dict(wanted)
@@ -74,6 +99,12 @@ def read_packet(packet, offset):
             seen.code = shown.split(": ", 1)[1]
         elif name == "ansi_tcap.paramSet_element":
             read_set(node, offset, seen)
+        elif name == "ansi_tcap.componentPortion":
+            read_sequence(node, seen)
+        elif name == "ansi_tcap.identifier":
+            seen.ids = node.get("value", "")
+        elif name in PACKAGES:
+            seen.package = PACKAGES[name]
         if "<MISSING>" in shown:
             seen.missing.append(shown)
     for node in packet.iterfind("proto[@name='ansi_map']/field"):
@@ -81,6 +112,19 @@ def read_packet(packet, offset):
             seen.operation = node.get("name")[9:].removesuffix("_element")
             read_set(node, offset, seen)
     return seen
+
+
+def read_sequence(node, seen):
+    """Type, place and end of each component that is opened."""
+    place = kind = end = None
+    for child in node:
+        name, pos, size = child.get("name"), int(child.get("pos")), int(child.get("size"))
+        if name == "ber.id.tag":
+            place, kind = pos, 0xE0 | int(child.get("show"))
+        elif name == "ber.length":
+            end = pos + size + int(child.get("show"))
+        elif name == "ansi_tcap.ComponentPDU":
+            seen.components.append((kind, place, end))
 
 
 def read_set(node, offset, seen):
@@ -101,3 +145,15 @@ def read_set(node, offset, seen):
         elif name == "" and "Unknown field" in child.get("show", ""):
             first = int(child.get("value")[:2], 16)
             seen.unknown.append((pos - offset, int(child.get("show").rsplit(":", 1)[1]), first >> 5 & 1))
+
+
+def compared(ours, seen):
+    """Counts: all; equal but for the place; equal in number, form and place; not shown; and shown but not ours."""
+    theirs = [(one.number, one.form, one.start, one.length) for one in seen.shown]
+    equal = [one[1:] for one in ours if one[1:] in theirs]
+    placed = [one for one in ours if one[1:] not in theirs and one[:3] in seen.unknown]
+    extra = [at for at, one in enumerate(theirs) if one not in equal]
+    # What is not ours stands behind a constructor form that tshark has opened.
+    assert all(at > 0 and (theirs[at - 1][1] == 1 or at - 1 in extra) for at in extra)
+    assert extra or theirs == equal
+    return len(ours), len(equal), len(placed), len(ours) - len(equal) - len(placed), len(extra)

@@ -6,6 +6,7 @@ import charts
 import dissect
 import drafts
 import failures
+import packages
 import second
 import tcap
 from page import print_table, said
@@ -61,16 +62,7 @@ def print_zero(folder, program):
 
 
 def compare(octets, seen):
-    """Counts: all; equal but for the place; equal in number, form and place; not shown; and shown but not ours."""
-    ours = tcap.walk(octets)
-    theirs = [(one.number, one.form, one.start, one.length) for one in seen.shown]
-    equal = [one[1:] for one in ours if one[1:] in theirs]
-    placed = [one for one in ours if one[1:] not in theirs and one[:3] in seen.unknown]
-    extra = [at for at, one in enumerate(theirs) if one not in equal]
-    # What is not ours stands behind a constructor form that tshark has opened.
-    assert all(at > 0 and (theirs[at - 1][1] == 1 or at - 1 in extra) for at in extra)
-    assert extra or theirs == equal
-    return len(ours), len(equal), len(placed), len(ours) - len(equal) - len(placed), len(extra)
+    return dissect.compared(tcap.walk(octets), seen)
 
 
 def in_its_field(one):
@@ -157,6 +149,9 @@ def main(folder, program):
     failures.print_names(folder)
     failures.print_drawn(folder, program, compare)
     failures.print_stream(folder, readings)
+    packages.print_charts(folder, program)
+    packages.print_drawn(folder, program)
+    packages.print_damaged(folder, program)
 
 
 main(*sys.argv[1:])

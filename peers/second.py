@@ -1,4 +1,4 @@
-"""The independent second program: its listing of components, and its stream of read cases."""
+"""The independent second program: its listings of components and of packages, and its stream of read cases."""
 
 import struct
 import subprocess
@@ -14,6 +14,24 @@ def listing(program, cases):
     lines = run.stdout.decode().splitlines()[1:]
     assert len(lines) == len(cases)
     return [tuple(int(word) for word in line.split()[1:]) for line in lines]
+
+
+def packages(program, cases):
+    """Answer, detail, type, and place, named and other count of each component, of each (package, specifier of all)."""
+    fields = []
+    for octets, specifier in cases:
+        fields.append(struct.pack(">BHB", 2, 1, specifier))
+        fields.append(struct.pack(">BH", 5, len(octets)) + octets)
+    run = subprocess.run([program, "list-packages"], input=b"".join(fields), capture_output=True, check=True)
+    found = []
+    for line in run.stdout.decode().splitlines()[1:]:
+        numbers = [int(word) for word in line.split()]
+        if line[0] == " ":
+            found[-1][3].append((numbers[0], *numbers[3:]))
+        else:
+            found.append((*numbers[1:4], []))
+    assert len(found) == len(cases)
+    return found
 
 
 def readings(program, reads, seed):

@@ -59,6 +59,23 @@ def package(octets, transaction):
     return element(kind, number + element(b"\xE8", octets))
 
 
+# How many transaction ID octets each package type has.
+ID_OCTETS = {0xE1: 0, 0xE2: 4, 0xE3: 4, 0xE4: 4, 0xE5: 8, 0xE6: 8}
+
+
+def package_of(kind, ids, components, field=length_field, dialogue=b""):
+    """A package of any type with these transaction ID octets and components; `dialogue` stands before the sequence."""
+    sequence = element(b"\xE8", b"".join(components), field)
+    return element(bytes([kind]), element(b"\xC7", ids, field) + dialogue + sequence, field)
+
+
+def transaction(octets):
+    """The number of a package's transaction: the first four of its ID octets."""
+    _, at = read_length(octets, 1)
+    _, at = read_length(octets, at + 1)
+    return int.from_bytes(octets[at:at + 4], "big")
+
+
 def write_pcap(path, frames):
     with open(path, "wb") as out:
         out.write(struct.pack("<IHHiIII", 0xA1B2C3D4, 2, 4, 0, 0, 65535, LINK_TYPE))
@@ -119,6 +136,16 @@ def walk(octets):
         entries.append((at, number, form, start, length))
         at = start + length
     return entries
+
+
+def walk_package(components, octets):
+    """Type, place and end of each of these components in the package; and its parameters, as `walk` gives them."""
+    at, parts, entries = len(octets) - sum(map(len, components)), [], []
+    for one in components:
+        parts.append((one[0], at, at + len(one)))
+        entries += [(place + at, number, form, start + at, length) for place, number, form, start, length in walk(one)]
+        at += len(one)
+    return parts, entries
 
 
 def padded(octets, field):

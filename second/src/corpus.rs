@@ -1,5 +1,7 @@
 //! The stored file of tagged fields for the listing.
 
+pub mod packages;
+
 use crate::directed::{self, Case};
 use crate::generate::read_case;
 use crate::random::Random;
@@ -114,7 +116,7 @@ fn put_drawn(random: &mut Random, octets: &mut Vec<u8>) {
         return;
     }
     if random.percent(15) {
-        put_skipped(random, octets);
+        put_skipped(random, octets, &SKIPPED);
     }
     if random.percent(80) {
         put_field(octets, 2, &[case.specifier]);
@@ -125,9 +127,12 @@ fn put_drawn(random: &mut Random, octets: &mut Vec<u8>) {
     put_field(octets, 1, &case.component);
 }
 
-/// Tags other than 1 and 2, some with contents that look like fields.
-fn put_skipped(random: &mut Random, octets: &mut Vec<u8>) {
-    let tag = random.pick(&[0, 3, 4, 0x10, 0x7F, 0x80, 0x81, 0x82, 0xFE, 0xFF]);
+/// Tags other than 1 and 2.
+const SKIPPED: [u8; 10] = [0, 3, 4, 0x10, 0x7F, 0x80, 0x81, 0x82, 0xFE, 0xFF];
+
+/// With one of these tags, and at times with contents that look like a field.
+fn put_skipped(random: &mut Random, octets: &mut Vec<u8>, tags: &[u8]) {
+    let tag = random.pick(tags);
     let contents = match random.below(3) {
         0 => Vec::new(),
         1 => vec![0x02, 0x00, 0x01, 0x1A],

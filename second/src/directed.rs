@@ -8,6 +8,7 @@ mod limits;
 mod lists;
 mod names;
 mod order;
+pub mod packages;
 mod padding;
 mod parts;
 mod row_cases;

@@ -1,10 +1,16 @@
-//! Seeded cases for the reader and the writer.
+//! Seeded cases for the readers and the writers.
 
 mod damage;
 pub(crate) mod draft;
+mod package_damage;
+pub(crate) mod package_draft;
+mod package_reads;
+mod package_writes;
 mod read_cases;
 mod write_cases;
 
+pub use package_reads::{package_read_case, PackageReadCase};
+pub use package_writes::{package_write_case, PackageWriteCase};
 pub use read_cases::{read_case, ReadCase};
 pub use write_cases::{write_case, WriteCase};
 

@@ -1,11 +1,16 @@
-//! The listing of a run of tagged fields.
+//! The listings of a run of tagged fields: of its components, or of its
+//! packages.
 
+use crate::package::reading::{self, Inside};
+use crate::package::{self, MOST_COMPONENTS};
 use crate::reader::{self, TABLE_NUMBERS};
 use std::fmt::Write;
 
 const HEADER: &str = "item answer detail named other\n";
+const PACKAGES_HEADER: &str = "item answer detail type components\n";
 const COMPONENT: u8 = 1;
 const SPECIFIER: u8 = 2;
+const PACKAGE: u8 = 5;
 
 /// What stands at the front of the input.
 enum Front<'a> {
@@ -14,8 +19,23 @@ enum Front<'a> {
     Nothing,
 }
 
+/// The components of an input.
 pub fn list(input: &[u8]) -> String {
-    let mut lines = String::from(HEADER);
+    listed(input, HEADER, COMPONENT, line)
+}
+
+/// The packages of an input, each with its components.
+pub fn list_packages(input: &[u8]) -> String {
+    listed(input, PACKAGES_HEADER, PACKAGE, package_lines)
+}
+
+/// What is said of an item with this number and specifier.
+type Lines = fn(u64, &[u8], u8) -> String;
+
+/// The fields with this tag are the items; tag 2 sets the specifier for those
+/// behind it.
+fn listed(input: &[u8], header: &str, item_tag: u8, of_item: Lines) -> String {
+    let mut lines = String::from(header);
     let mut rest = input;
     let mut specifier = 0;
     let mut item = 0u64;
@@ -28,12 +48,12 @@ pub fn list(input: &[u8]) -> String {
             }
             Front::Field(tag, contents, behind) => {
                 rest = behind;
-                match (tag, contents) {
-                    (COMPONENT, component) => {
+                match contents {
+                    contents if tag == item_tag => {
                         item += 1;
-                        lines.push_str(&line(item, component, specifier));
+                        lines.push_str(&of_item(item, contents, specifier));
                     }
-                    (SPECIFIER, [only]) => specifier = *only,
+                    [only] if tag == SPECIFIER => specifier = *only,
                     _ => {}
                 }
             }
@@ -66,4 +86,25 @@ fn line(item: u64, component: &[u8], specifier: u8) -> String {
     let mut text = String::new();
     writeln!(text, "{item} {number} {detail} {named} {other}").expect("a string takes all");
     text
+}
+
+/// The package's line, and behind it one for each component.
+fn package_lines(item: u64, octets: &[u8], specifier: u8) -> String {
+    let mut table = [0; package::TABLE_NUMBERS];
+    let mut summaries = [0; MOST_COMPONENTS];
+    let specifiers = [specifier; MOST_COMPONENTS];
+    match reading::read(octets, specifiers, &mut table, &mut summaries) {
+        Err(refusal) => format!("{item} {} {} 0 0\n", refusal.number, refusal.detail),
+        Ok(accepted) => {
+            let count = accepted.components.len();
+            let inside: String = accepted.components.iter().map(inside_line).collect();
+            format!("{item} 0 0 {} {count}\n{inside}", accepted.kind)
+        }
+    }
+}
+
+/// The component's place stands for its item.
+fn inside_line(one: &Inside) -> String {
+    let reader::Accepted { named, other, .. } = one.accepted;
+    format!(" {} 0 0 {named} {other}\n", one.place)
 }

@@ -31,13 +31,13 @@ pub type Answer = Result<Accepted, Refusal>;
 
 /// Start and end of an element's contents.
 #[derive(Clone, Copy)]
-struct Contents {
-    start: usize,
-    end: usize,
+pub(crate) struct Contents {
+    pub start: usize,
+    pub end: usize,
 }
 
 impl Contents {
-    fn count(self) -> usize {
+    pub fn count(self) -> usize {
         self.end - self.start
     }
 }
@@ -160,7 +160,7 @@ fn read_parameters(component: &[u8], set: Contents) -> Result<Vec<Parameter>, Re
 }
 
 /// The octet at a place where an element must begin.
-fn wanted(component: &[u8], place: usize, end: usize) -> Result<u8, Refusal> {
+pub(crate) fn wanted(component: &[u8], place: usize, end: usize) -> Result<u8, Refusal> {
     if place == end {
         return Err(Refusal::new(5, place, "ended"));
     }
@@ -218,7 +218,7 @@ fn long_run(run: &[u8], place: usize) -> Refusal {
 
 /// The contents of the element at `place` with its length field at `field`;
 /// they may not run past `end`, where the parent ends.
-fn contents_within(
+pub(crate) fn contents_within(
     component: &[u8],
     place: usize,
     field: usize,
@@ -235,7 +235,7 @@ fn contents_within(
 }
 
 /// As above, for the component and F2, which must end where the parent ends.
-fn contents_to_the_end(
+pub(crate) fn contents_to_the_end(
     component: &[u8],
     place: usize,
     field: usize,

@@ -1,8 +1,11 @@
-//! How often the generated cases reach each number, by component type, and
-//! how often a component is padded.
+//! How often the generated cases reach each number, by the type of the
+//! component or of the package, and how often a component is padded.
 
-use crate::cases::{answer_read, answer_write, read_random, write_random};
+use crate::cases::{answer_package_read, answer_package_write, answer_read, answer_write};
+use crate::cases::{package_read_random, package_write_random, read_random, write_random};
+use crate::generate::{package_read_case, package_write_case};
 use crate::generate::{read_case, write_case, WriteCase};
+use crate::package::KINDS;
 use crate::padding::is_padded;
 use crate::reader::{read, TABLE_NUMBERS};
 use crate::refusal::Refusal;
@@ -23,36 +26,55 @@ struct Key {
 
 type Counts = BTreeMap<Key, u64>;
 
+/// The types that have a column of their own.
+type Types = [u8];
+
 pub fn report(reads: u64, writes: u64, seed: u64) -> String {
     let both = [count_reads(reads, seed), count_writes(writes, seed)];
-    let mut text = heading();
-    for number in (0..=18).chain([21]) {
-        let of_number = |key: &Key| key.number == number;
-        put_line(&mut text, &number.to_string(), &both, of_number);
-        for why in reasons(&both, number) {
-            let name = format!("   {why}");
-            put_line(&mut text, &name, &both, |key| {
-                of_number(key) && key.why == why
-            });
-        }
-    }
-    put_line(&mut text, "padded", &both, |key| key.padded);
-    put_line(&mut text, "   accepted", &both, |key| {
+    let types = TYPES.each_ref().map(|kind| kind.octet);
+    let mut text = numbers(&types, &both);
+    put_line(&mut text, &types, "padded", &both, |key| key.padded);
+    put_line(&mut text, &types, "   accepted", &both, |key| {
         key.padded && key.number == 0
     });
     text
 }
 
-/// The columns behind that of all cases.
-fn columns() -> impl Iterator<Item = Option<u8>> {
-    TYPES.iter().map(|kind| Some(kind.octet)).chain([None])
+/// As above of packages, whatever is padded in them.
+pub fn of_packages(reads: u64, writes: u64, seed: u64) -> String {
+    let both = [
+        count_package_reads(reads, seed),
+        count_package_writes(writes, seed),
+    ];
+    numbers(&KINDS, &both)
 }
 
-fn heading() -> String {
-    let mut text = format!("{:<18}", "number");
+/// A line for each number that is met, and one for each of its reasons.
+fn numbers(types: &Types, both: &[Counts; 2]) -> String {
+    let mut text = heading(types);
+    for number in (0..=18).chain(21..=24) {
+        let of_number = |key: &Key| key.number == number;
+        put_line(&mut text, types, &number.to_string(), both, of_number);
+        for why in reasons(both, number) {
+            let name = format!("   {why}");
+            put_line(&mut text, types, &name, both, |key| {
+                of_number(key) && key.why == why
+            });
+        }
+    }
+    text
+}
+
+/// The columns behind that of all cases.
+fn columns(types: &Types) -> impl Iterator<Item = Option<u8>> + '_ {
+    types.iter().copied().map(Some).chain([None])
+}
+
+fn heading(types: &Types) -> String {
+    let mut text = format!("{:<20}", "number");
     for all in ["reader", "writer"] {
         put_cell(&mut text, all);
-        for column in columns() {
+        for column in columns(types) {
             let name = column.map_or("none".into(), |octet| format!("{octet:X}"));
             put_cell(&mut text, &name);
         }
@@ -64,11 +86,17 @@ fn put_cell(text: &mut String, cell: &str) {
     write!(text, "{cell:>8}").expect("a string takes all");
 }
 
-fn put_line(text: &mut String, name: &str, both: &[Counts; 2], met: impl Fn(&Key) -> bool) {
-    write!(text, "{name:<18}").expect("a string takes all");
+fn put_line(
+    text: &mut String,
+    types: &Types,
+    name: &str,
+    both: &[Counts; 2],
+    met: impl Fn(&Key) -> bool,
+) {
+    write!(text, "{name:<20}").expect("a string takes all");
     for counts in both {
         put_cell(text, &total(counts, &met).to_string());
-        for column in columns() {
+        for column in columns(types) {
             let count = total(counts, |key| key.kind == column && met(key));
             put_cell(text, &count.to_string());
         }
@@ -148,6 +176,46 @@ fn count_writes(cases: u64, seed: u64) -> Counts {
         };
         let octet = Some(case.head.kind);
         count(&mut counts, octet, reached, from_padded(&case));
+    }
+    counts
+}
+
+fn count_package(counts: &mut Counts, octet: Option<u8>, reached: (u8, &'static str)) {
+    let key = Key {
+        number: reached.0,
+        why: reached.1,
+        kind: octet.filter(|octet| KINDS.contains(octet)),
+        padded: false,
+    };
+    *counts.entry(key).or_insert(0) += 1;
+}
+
+fn count_package_reads(cases: u64, seed: u64) -> Counts {
+    const ACCEPTED: [&str; 9] = ["", "1", "2", "3", "4", "5", "6", "7", "8"];
+    let mut counts = Counts::new();
+    let mut random = package_read_random(seed);
+    for _ in 0..cases {
+        let case = package_read_case(&mut random);
+        let reached = match &answer_package_read(&case) {
+            Err(refusal) => (refusal.number, reason(refusal)),
+            Ok(accepted) => (0, ACCEPTED[accepted.components.len()]),
+        };
+        count_package(&mut counts, case.package.first().copied(), reached);
+    }
+    counts
+}
+
+fn count_package_writes(cases: u64, seed: u64) -> Counts {
+    let mut counts = Counts::new();
+    let mut random = package_write_random(seed);
+    for _ in 0..cases {
+        let case = package_write_case(&mut random);
+        let reached = match &answer_package_write(&case).0 {
+            Err(refusal) => (refusal.number, reason(refusal)),
+            Ok(octets) if *octets == case.output => (0, "output filled"),
+            Ok(_) => (0, "output longer"),
+        };
+        count_package(&mut counts, Some(case.kind), reached);
     }
     counts
 }

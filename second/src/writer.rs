@@ -199,8 +199,8 @@ fn compose(kind: &ComponentType, head: Head, list: &[Entry], sizes: &Sizes) -> V
     octets
 }
 
-/// The shortest form; only called where the whole is at most 4,096 octets.
-fn put_length(octets: &mut Vec<u8>, length: usize) {
+/// The shortest form; only called for a length of at most 65,535.
+pub(crate) fn put_length(octets: &mut Vec<u8>, length: usize) {
     let [high, low] = u16::try_from(length).expect("a short length").to_be_bytes();
     match field_size(length) {
         1 => octets.push(low),

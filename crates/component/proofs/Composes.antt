@@ -16,11 +16,11 @@ use Rattle.component.proofs.Composable.{Composable, Identified}
 use Rattle.component.proofs.Shortening.{shorter}
 
 -- ---- composed
-within : (head body : Octets) → length body ≤ length (element head body)
+pub within : (head body : Octets) → length body ≤ length (element head body)
 unfolding element
 within head body = simp length-append (omega arith)
 
-element-of : (head body : Octets) → length (element head body) ≤ 4096 → Element head body (element head body)
+pub element-of : (head body : Octets) → length (element head body) ≤ 4096 → Element head body (element head body)
 unfolding element
 element-of head body h = laid (shortest (length body)) (short (length body) (omega (arith, within head body)))
 

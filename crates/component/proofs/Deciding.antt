@@ -12,6 +12,7 @@ use Rattle.element.specs.declared.Length.the-variants as LV
 use Rattle.element.specs.declared.Identifier as I
 use Rattle.element.specs.declared.Identifier.the-variants as IV
 use Rattle.element.specs.Octets.{Octets, AreOctets}
+use Rattle.element.specs.Answer.{Answer, accepted, refused}
 use Rattle.element.specs.Length.{LengthField}
 use Rattle.element.specs.Identifier.{IdentifierField}
 use Rattle.element.specs.Decoded.{lengthAt, identifierAt}
@@ -19,22 +20,39 @@ use Rattle.element.proofs.LengthLaws as Length
 use Rattle.element.proofs.IdentifierLaws as Identifier
 use Rattle.component.specs.Types.{Coding, uncoded, coded, formatOf, codingOf, Typed, Allowed, withFamily}
 use Rattle.component.specs.Grammar.{Parameter, Element, laid, Parameters, none, more, Component, Coded, absent, present, Laid}
-use Rattle.component.specs.Faults.{NoField, NoIdentifier, Numbers, component, Unheld, no-field, overrun, Unfound, ended, other, left, InSet, NoSet, NoCode, NoBody, Whole, Faulty, LaidOut}
+use Rattle.component.specs.Faults.{NoField, NoIdentifier, Numbers, component, Unheld, no-field, overrun, Unfound, ended, other, LeftOver, left, InSet, NoSet, NoCode, NoBody, Whole, Faulty, LaidOut}
 
 -- what is wanted, or a fault
 pub data Decided (P : Type 0) (F : ℕ → ℕ → Type 0) : Type 0 where
   fine : P → Decided P F
   fault : {n d : ℕ} → F n d → Decided P F
 
-then : {P Q : Type 0} {F G : ℕ → ℕ → Type 0} → Decided P F → ((n d : ℕ) → F n d → G n d) → (P → Decided Q G) → Decided Q G
+pub then : {P Q : Type 0} {F G : ℕ → ℕ → Type 0} → Decided P F → ((n d : ℕ) → F n d → G n d) → (P → Decided Q G) → Decided Q G
 then (fine p) f k = k p
 then (fault {n} {d} x) f k = fault (f n d x)
+
+-- which of the two it was, where each is an answer of its own
+module _ {A P : Type 0} {F : ℕ → ℕ → Type 0} {a : Answer A} where
+  pub was-fault : Decided P F → (P → (x : A) × (a ≡ accepted x)) → ((n d : ℕ) → F n d → a ≡ refused n d) → {n d : ℕ} → a ≡ refused n d → F n d
+  was-fault (fine p) f g e = let (x, k) = f p in let z : _≡_ {A = ℕ} 0 1 = cc in absurd (omega arith)
+  was-fault (fault {n = m} {d = c} x) f g {n} {d} e =
+      let k = g m c x in
+      let p : m ≡ n = cc in
+      let q : c ≡ d = cc in
+      rw (p, q) at x
+
+  pub was-fine : Decided P F → ((n d : ℕ) → F n d → a ≡ refused n d) → {x : A} → a ≡ accepted x → P
+  was-fine (fine p) g e = p
+  was-fine (fault {n} {d} x) g e = let k = g n d x in let z : _≡_ {A = ℕ} 0 1 = cc in absurd (omega arith)
 
 pub ask : {P R : Type 0} → Dec P → (P → R) → ((P → ⊥) → R) → R
 ask (yes p) f g = f p
 ask (no n) f g = g n
 
-behind : {s : Octets} → AreOctets s → (e rest : Octets) → s ≡ e ++ rest → AreOctets rest
+pub decBetween : (a b c : ℕ) → Dec ((a ≤ b) × (b ≤ c))
+decBetween a b c = ask (decLe a b) (λ h. ask (decLe b c) (λ k. yes (h, k)) λ n. no λ (_, k). n k) λ n. no λ (h, _). n h
+
+pub behind : {s : Octets} → AreOctets s → (e rest : Octets) → s ≡ e ++ rest → AreOctets rest
 behind o e rest p i = rw (getD-append-add e rest i 0) at (rw p at o (length e + i))
 
 no-length : {s : Octets} → lengthAt s ≡ LV.Wrong → NoField s
@@ -50,18 +68,25 @@ not-identified e number form head rest f p =
     omega arith
 
 -- ---- one element at the head of what is left, and what is left behind it
-record Held (head t : Octets) : Type 0 where
-  body : Octets
-  e : Octets
-  rest : Octets
-  element : Element head body e
-  is : t ≡ e ++ rest
+pub record Held (head t : Octets) : Type 0 where
+  pub body : Octets
+  pub e : Octets
+  pub rest : Octets
+  pub element : Element head body e
+  pub is : t ≡ e ++ rest
+
+-- and one that fills what is left
+pub record Filled (octet : ℕ) (t : Octets) : Type 0 where
+  pub field : Octets
+  pub body : Octets
+  pub sized : LengthField (length body) field
+  pub is : t ≡ octet ∷ (field ++ body)
 
 overrun-at : {ns : Numbers} {head field t : Octets} (rest : Octets) {at n : ℕ} → t ≡ field ++ rest → LengthField n field → length rest < n → Unheld ns head at (head ++ t) (ns .extent) at
 overrun-at rest p f h = rw p (overrun rest f h)
 
 module _ (ns : Numbers) where
-  hold : (head : Octets) (at : ℕ) (s : Octets) → AreOctets s → Decided (Held head (head ++ s)) (Unheld ns head at (head ++ s))
+  pub hold : (head : Octets) (at : ℕ) (s : Octets) → AreOctets s → Decided (Held head (head ++ s)) (Unheld ns head at (head ++ s))
   hold head at s o = go (lengthAt s) refl
     where
       go : (l : L.Length) → lengthAt s ≡ l → Decided (Held head (head ++ s)) (Unheld ns head at (head ++ s))
@@ -82,10 +107,18 @@ module _ (ns : Numbers) where
           (λ h. fault (overrun-at r p f (omega arith)))
       go LV.Wrong e = fault (no-field s (no-length e))
 
-  find : (octet number at : ℕ) (t : Octets) → AreOctets t → Decided (Held (octet ∷ []) t) (Unfound ns octet number at t)
+  pub find : (octet number at : ℕ) (t : Octets) → AreOctets t → Decided (Held (octet ∷ []) t) (Unfound ns octet number at t)
   find octet number at [] o = fault ended
   find octet number at (a ∷ s) o =
       ask (ℕ-discrete a octet) (λ e. rw e (then (hold (octet ∷ []) at s (behind o (a ∷ []) s refl)) (λ n d f. Unfound.unheld f) (λ h. fine h))) (λ h. fault (other h))
+
+  -- the element has to end where its parent ends
+  pub fill : (at : ℕ) {octet : ℕ} {t : Octets} → Held (octet ∷ []) t → Decided (Filled octet t) (LeftOver ns (octet ∷ []) at t)
+  fill at {octet} {t} h = go (h .rest) (h .element) (h .is)
+    where
+      go : {body e : Octets} (rest : Octets) → Element (octet ∷ []) body e → t ≡ e ++ rest → Decided (Filled octet t) (LeftOver ns (octet ∷ []) at t)
+      go {body = body} [] (laid field f) p = fine (record { field = field; body = body; sized = f; is = p ∙ append-nil _ })
+      go (a ∷ rest) w p = rw p (fault (left a rest w))
 
 -- ---- the parameters
 record Set (room : ℕ) (t : Octets) : Type 0 where
@@ -133,15 +166,13 @@ record Closed (t : Octets) : Type 0 where
   set : Set 64 octets
   element : Element (0xF2 ∷ []) octets t
 
-close-set : (at : ℕ) {t e body : Octets} (rest : Octets) → Element (0xF2 ∷ []) body e → t ≡ e ++ rest → AreOctets t → Decided (Closed t) (NoSet at t)
-close-set at {body = body} [] (laid field f) p o =
-    let q = p ∙ append-nil _ in
-    then (parameters 64 (at + (1 + length field)) body (behind o (0xF2 ∷ field) body q)) (λ n d i. rw q (NoSet.inside f i)) λ s.
-    fine (record { octets = body; set = s; element = rw q (laid field f) })
-close-set at (a ∷ rest) w p o = rw p (fault (NoSet.left-over (left a rest w)))
-
 set-at : (at : ℕ) (t : Octets) → AreOctets t → Decided (Closed t) (NoSet at t)
-set-at at t o = then (find component 0xF2 8 at t o) (λ n d f. NoSet.unfound f) λ h. close-set at (h .rest) (h .element) (h .is) o
+set-at at t o =
+    then (find component 0xF2 8 at t o) (λ n d f. NoSet.unfound f) λ h.
+    then (fill component at h) (λ n d f. NoSet.left-over f) λ w.
+    let q = w .is in
+    then (parameters 64 (at + (1 + length (w .field))) (w .body) (behind o (0xF2 ∷ w .field) (w .body) q)) (λ n d i. rw q (NoSet.inside (w .sized) i)) λ s.
+    fine (record { octets = w .body; set = s; element = rw q (laid (w .field) (w .sized)) })
 
 -- ---- the code, and the set behind it
 record Behind (coding : Coding) (t : Octets) : Type 0 where
@@ -186,9 +217,7 @@ record Bodied (kind : ℕ) (t : Octets) : Type 0 where
 
 pub decAllowed : (kind size : ℕ) → Typed kind → Dec (Allowed kind size)
 decAllowed kind size t =
-    ask (decLe (formatOf kind .fewest) size)
-    (λ h. ask (decLe size (formatOf kind .most)) (λ k. yes (t, h, k)) λ n. no λ (_, _, k). n k)
-    λ n. no λ (_, h, _). n h
+    ask (decBetween (formatOf kind .fewest) size (formatOf kind .most)) (λ (h, k). yes (t, h, k)) λ n. no λ (_, h, k). n (h, k)
 
 body-at : (kind at : ℕ) (t : Octets) → Typed kind → AreOctets t → Decided (Bodied kind t) (NoBody kind at t)
 body-at kind at t typed o = then (find component 0xCF 6 at t o) (λ n d f. NoBody.unfound f) λ h. go h (decAllowed kind (length (h .body)) typed)
@@ -217,21 +246,10 @@ body-at kind at t typed o = then (find component 0xCF 6 at t o) (λ n d f. NoBod
 
 -- ---- the component
 pub decTyped : (kind : ℕ) → Dec (Typed kind)
-decTyped kind = ask (decLe 0xE9 kind) (λ h. ask (decLe kind 0xEC) (λ k. yes (h, k)) λ n. no λ (_, k). n k) λ n. no λ (h, _). n h
+decTyped kind = decBetween 0xE9 kind 0xEC
 
 abbrev pub Outcome : Octets → Type 0
 Outcome s = Decided ((c : Component) × LaidOut c s) (λ n d. Faulty n d s)
-
-module _ (kind : ℕ) (typed : Typed kind) (s : Octets) (short : length s ≤ 4096) where
-  close : {e body : Octets} (rest : Octets) → Element (kind ∷ []) body e → s ≡ e ++ rest → AreOctets s → Outcome s
-  close {body = body} [] (laid field f) p o =
-      let q : s ≡ kind ∷ (field ++ body) = p ∙ append-nil _ in
-      then (body-at kind (1 + length field) body typed (behind o (kind ∷ field) body q)) (λ n d g. Faulty.whole short typed (rw q (Whole.inside f g))) λ b.
-      fine (b .c, record { laid = b .lays s (rw q (laid field f)); within = short; few = b .few })
-  close {e} (a ∷ rest) w p o = fault (Faulty.whole short typed (leave p))
-    where
-      leave : s ≡ e ++ (a ∷ rest) → Whole kind s (component .rest) (0 + length e)
-      leave p = rw p (Whole.left-over (left a rest w))
 
 pub decide : (s : Octets) → AreOctets s → Outcome s
 decide [] o = fault Faulty.empty
@@ -239,6 +257,9 @@ decide (a ∷ s) o =
     ask (decLe (length (a ∷ s)) 4096) (λ short.
     ask (decTyped a) (λ typed.
     then (hold component (a ∷ []) 0 s (behind o (a ∷ []) s refl)) (λ n d f. Faulty.whole short typed (Whole.unheld f)) λ h.
-    close a typed (a ∷ s) short (h .rest) (h .element) (h .is) o)
+    then (fill component 0 h) (λ n d f. Faulty.whole short typed (Whole.left-over f)) λ w.
+    let q = w .is in
+    then (body-at a (1 + length (w .field)) (w .body) typed (behind o (a ∷ w .field) (w .body) q)) (λ n d f. Faulty.whole short typed (rw q (Whole.inside (w .sized) f))) λ b.
+    fine (b .c, record { laid = b .lays (a ∷ s) (rw q (laid (w .field) (w .sized))); within = short; few = b .few }))
     (λ n. fault (Faulty.untyped short n)))
     (λ n. fault (Faulty.long (omega arith)))

@@ -22,14 +22,14 @@ use Rattle.component.proofs.Parts.{octets-between}
 use Rattle.component.proofs.Typing.{of-each, most-two}
 
 -- `at` octets stand before these
-abbrev Listed : (at : ℕ) → Octets → (number detail : ℕ) → Type 0
+abbrev pub Listed : (at : ℕ) → Octets → (number detail : ℕ) → Type 0
 Listed at s n d = (0 < n) × (n < 256) × (d ≤ at + length s)
 
-unheld : {head s : Octets} {at n d : ℕ} → Unheld component head at s n d → Listed at s n d
+pub unheld : {head s : Octets} {at n d : ℕ} → Unheld component head at s n d → Listed at s n d
 unheld {head} (no-field s h) = omega (arith, length-append head s)
 unheld (overrun rest f h) = omega arith
 
-unfound : {octet number at n d : ℕ} {s : Octets} → 0 < number → number < 256 → Unfound component octet number at s n d → Listed at s n d
+pub unfound : {octet number at n d : ℕ} {s : Octets} → 0 < number → number < 256 → Unfound component octet number at s n d → Listed at s n d
 unfound h k ended = omega arith
 unfound h k (other f) = omega arith
 unfound h k (Unfound.unheld u) = unheld u

@@ -2,9 +2,9 @@
 use Prim.Native.Nat.{ℕ, zero, suc, _+_, _*_, _≤_}
 use mathlib.Core.Path.{_≡_, refl, sym, ap, _∙_}
 use mathlib.Core.Bool.{Bool, true, false, and-eq-true-iff}
-use mathlib.Core.List.{List, [], _∷_, _++_, map}
-use lib.ListN.{length, getD, drop, length-append}
-use lib.Seq.{getD-drop, drop-drop}
+use mathlib.Core.List.{List, [], _∷_, _++_, map, append-assoc}
+use lib.ListN.{length, getD, drop, length-append, length-drop}
+use lib.Seq.{getD-drop, drop-drop, drop-append-le}
 use borrow.Author.Tests.{le-leb, leb-true}
 use native.Mathlib.Nat.{add-zero}
 use native.Mathlib.Omega.{arith}
@@ -42,6 +42,17 @@ holds es t = holds-from es (tableWith es t) 0 (drop (length (numbers es)) t) ref
 pub roomy : (es : List Entry) (t : List ℕ) → width * length es ≤ length (tableWith es t)
 unfolding tableWith
 roomy es t = omega (arith, numbers-length es, length-append (numbers es) (drop (length (numbers es)) t))
+
+-- where they fit, what stands behind them stays
+module _ (es : List Entry) (t : List ℕ) (fits : width * length es ≤ length t) where
+  pub table-length : length (tableWith es t) ≡ length t
+  unfolding tableWith
+  table-length = simp (length-append, length-drop) (omega (arith, numbers-length es))
+
+  pub table-beside : (behind : List ℕ) → tableWith es t ++ behind ≡ tableWith es (t ++ behind)
+  unfolding tableWith
+  table-beside behind =
+      append-assoc (numbers es) _ behind ∙ ap (λ l. numbers es ++ l) (sym (drop-append-le (length (numbers es)) t behind (omega (arith, numbers-length es))))
 
 -- ---- entries that show parameters are taken for them
 module _ (s : Octets) where

@@ -11,7 +11,7 @@ use Rattle.element.specs.Answer.{accepted, refused}
 use Rattle.element.proofs.Reading.{most}
 use Rattle.component.specs.Types.{Typed, codingOf, typed, idFits}
 use Rattle.component.specs.Table.{Entry, next}
-use Rattle.component.specs.Layout.{Span, sizeOf, contents, wanted, setAt, Head, codeAt, behindId, bodyAt, headFrom, headAt, parameterAt, parameterFrom, parameters, Layout, layoutBehind, layoutAt}
+use Rattle.component.specs.Layout.{Span, sizeOf, contents, wanted, elementFrom, wantedFrom, setAt, Head, codeAt, behindId, bodyAt, headFrom, headAt, parameterAt, parameterFrom, parameters, Layout, layoutBehind, layoutAt}
 use Rattle.component.proofs.Ends.{Ends, gives, given, then, ask, below, at-most, equal}
 use Rattle.component.proofs.Asking.{Any, any}
 use Rattle.component.proofs.Taken.{passed}
@@ -32,7 +32,15 @@ pub record Ordered (s : Octets) (l : Layout) : Type 0 where
   pub head : Bounded s (l .head)
   pub few : length (l .entries) ≤ 64
 
--- ---- one parameter
+-- ---- the steps that are handed out, within 4,096 octets
+pub element-within : (s : Octets) (at : ℕ) → length s ≤ 4096 → at < length s → elementFrom s at ≡ contents s at (at + 1) (length s)
+unfolding elementFrom
+element-within s at h k = simp (le-leb (length s) 4096, lt-ltb at (length s))
+
+pub wanted-within : (s : Octets) (octet number at : ℕ) → length s ≤ 4096 → wantedFrom s octet number at ≡ wanted s octet number at (length s)
+unfolding wantedFrom
+wanted-within s octet number at h = simp (le-leb (length s) 4096)
+
 pub parameter-within : (s : Octets) (at : ℕ) → length s ≤ 4096 → at < length s → parameterFrom s at ≡ parameterAt s at (length s)
 unfolding parameterFrom
 parameter-within s at h k = simp (le-leb (length s) 4096, lt-ltb at (length s))

@@ -8,14 +8,16 @@ use Rattle.component.specs.declared.Count as C
 use Rattle.component.specs.declared.Count.the-variants as CV
 use Rattle.component.specs.declared.Head as H
 use Rattle.component.specs.declared.Head.the-variants as HV
+use Rattle.component.specs.declared.Span as S
+use Rattle.component.specs.declared.Span.the-variants as SV
 use Rattle.component.specs.declared.Parameter as P
 use Rattle.component.specs.declared.Parameter.the-variants as PV
 use Rattle.component.specs.declared.Measured as M
 use Rattle.component.specs.declared.Measured.the-variants as MV
-use Rattle.component.specs.Layout.{Head}
+use Rattle.component.specs.Layout.{Span, Head}
 use Rattle.component.specs.Table.{Entry}
 use Rattle.component.specs.Composing.{Sizes}
-use Rattle.component.specs.Told.{headIn, entryIn, countIn, measureIn}
+use Rattle.component.specs.Told.{headIn, spanIn, entryIn, countIn, measureIn}
 
 -- `head_from`
 abbrev headFor : Answer Head → H.Head
@@ -28,6 +30,18 @@ same-head (HV.Refused n d) = refl
 
 pub one-head : {x y : H.Head} {told : Answer Head} → headIn x ≡ told → headIn y ≡ told → x ≡ y
 one-head = one-told headIn headFor same-head
+
+-- `element_from`, `wanted_from`
+abbrev spanFor : Answer Span → S.Span
+spanFor (accepted x) = SV.Found (x .start) (x .end)
+spanFor (refused n d) = SV.Refused n d
+
+same-span : (x : S.Span) → spanFor (spanIn x) ≡ x
+same-span (SV.Found start end) = refl
+same-span (SV.Refused n d) = refl
+
+pub one-span : {x y : S.Span} {told : Answer Span} → spanIn x ≡ told → spanIn y ≡ told → x ≡ y
+one-span = one-told spanIn spanFor same-span
 
 -- `parameter_from`
 abbrev parameterFor : Answer Entry → P.Parameter

@@ -3,7 +3,7 @@ use Prim.Native.Nat.{ℕ, _+_, _-_, _<_, _≤_}
 use mathlib.Core.Path.{_≡_}
 use mathlib.Core.List.{[], _∷_, _++_}
 use lib.ListN.{length, drop, getD, length-take, length-drop, List·getD-eq-default}
-use lib.Seq.{take-all, take-add, take-length, drop-cons, drop-drop, getD-take, getD-drop}
+use lib.Seq.{take-all, take-add, take-length, take-append-seam, drop-cons, drop-drop, getD-take, getD-drop}
 use native.Mathlib.Decide.{decLt}
 use native.Mathlib.Omega.{arith}
 use Rattle.element.specs.Octets.{Octets, AreOctets, between}
@@ -43,3 +43,8 @@ module _ (s : Octets) where
   pair a h =
       let e : a + 2 ≡ a + 1 + 1 = omega arith in
       rw (e, cut a (a + 1) (a + 1 + 1) (omega arith) (omega arith), single a (omega arith), single (a + 1) h)
+
+pub octets-before : (a b : Octets) → AreOctets (a ++ b) → AreOctets a
+octets-before a b o =
+    let e : length a - 0 ≡ length a = omega arith in
+    rw (e, take-append-seam) at (octets-between (a ++ b) o 0 (length a))

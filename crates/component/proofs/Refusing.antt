@@ -22,7 +22,7 @@ use Rattle.element.proofs.IdentifierLaws as Identifier
 use Rattle.component.specs.Layout.{Span, span, sizeOf, contents, spanOf, wanted, setAt, Head, codedAt, codeAt, behindId, bodyAt, headAt, headFrom, parameter, parameterAt, parameters, Layout, layoutOf, layoutAt, layoutBehind}
 use Rattle.component.specs.Types.{Coding, coded, codingOf, Typed, withFamily, familySize}
 use Rattle.component.specs.Grammar.{Element, laid, Coded, absent, present}
-use Rattle.component.specs.Faults.{component, NoField, NoIdentifier, Unheld, no-field, overrun, Unfound, ended, other, left, InSet, NoSet, NoCode, NoBody, Whole, Faulty}
+use Rattle.component.specs.Faults.{Numbers, component, NoField, NoIdentifier, Unheld, no-field, overrun, Unfound, ended, other, left, InSet, NoSet, NoCode, NoBody, Whole, Faulty}
 use Rattle.component.proofs.Parts.{octets-between, to-end}
 use Rattle.component.proofs.Typing.{known, unknown, fits, misfits}
 use Rattle.component.proofs.Deciding.{ask}
@@ -45,40 +45,40 @@ ill-formed {s} o h = go (identifierAt s) refl
 
 module _ (s : Octets) where
   -- `t` is what is left from `at` on
-  record Rest (at : ℕ) (t : Octets) : Type 0 where
-    octets : drop at s ≡ t
-    ends : at + length t ≡ length s
+  pub record Rest (at : ℕ) (t : Octets) : Type 0 where
+    pub octets : drop at s ≡ t
+    pub ends : at + length t ≡ length s
 
   module _ {at : ℕ} {t : Octets} (r : Rest at t) where
     seen : between at (length s) s ≡ t
     seen = to-end s at ∙ r .octets
 
-    at-octets : AreOctets s → AreOctets t
+    pub at-octets : AreOctets s → AreOctets t
     at-octets o = rw (← seen) (octets-between s o at (length s))
 
-  first : {at a : ℕ} {t : Octets} → Rest at (a ∷ t) → getD s at 0 ≡ a
+  pub first : {at a : ℕ} {t : Octets} → Rest at (a ∷ t) → getD s at 0 ≡ a
   first {at} r = rw add-zero at (sym (getD-drop at s 0 0) ∙ ap (λ t. getD t 0 0) (r .octets))
 
-  behind : {at : ℕ} (a : Octets) {b : Octets} → Rest at (a ++ b) → Rest (at + length a) b
+  pub behind : {at : ℕ} (a : Octets) {b : Octets} → Rest at (a ++ b) → Rest (at + length a) b
   behind {at} a {b} r = record {
     octets = sym (drop-drop (length a) at s) ∙ ap (λ t. drop (length a) t) (r .octets) ∙ drop-append-seam a b;
     ends = omega (arith, r .ends, length-append a b);
   }
 
-  moved : {at to : ℕ} {t : Octets} → at ≡ to → Rest at t → Rest to t
+  pub moved : {at to : ℕ} {t : Octets} → at ≡ to → Rest at t → Rest to t
   moved e r = rw e at r
 
-  again : {at : ℕ} {t u : Octets} → t ≡ u → Rest at t → Rest at u
+  pub again : {at : ℕ} {t u : Octets} → t ≡ u → Rest at t → Rest at u
   again e r = rw e at r
 
   -- what an element's contents are found as
-  record Body (at : ℕ) (body e rest : Octets) (x : Span) : Type 0 where
-    starts : Rest (x .start) (body ++ rest)
-    ends : x .end ≡ at + length e
-    size : sizeOf x ≡ length body
-    order : x .start ≤ x .end
+  pub record Body (at : ℕ) (body e rest : Octets) (x : Span) : Type 0 where
+    pub starts : Rest (x .start) (body ++ rest)
+    pub ends : x .end ≡ at + length e
+    pub size : sizeOf x ≡ length body
+    pub order : x .start ≤ x .end
 
-  contents-found : {at : ℕ} {head body e rest : Octets} → Element head body e → Rest at (e ++ rest) →
+  pub contents-found : {at : ℕ} {head body e rest : Octets} → Element head body e → Rest at (e ++ rest) →
       (x : Span) × (contents s at (at + length head) (length s) ≡ accepted x) × Body at body e rest x
   unfolding contents spanOf
   contents-found {at} {head} {body} {rest = rest} (laid field f) r =
@@ -95,26 +95,33 @@ module _ (s : Octets) where
         record { starts = c; ends = omega arith; size = omega arith; order = omega arith },
       )
 
-  wanted-found : {octet at : ℕ} (number : ℕ) {body e rest : Octets} → Element (octet ∷ []) body e → Rest at (e ++ rest) →
+  pub wanted-found : {octet at : ℕ} (number : ℕ) {body e rest : Octets} → Element (octet ∷ []) body e → Rest at (e ++ rest) →
       (x : Span) × (wanted s octet number at (length s) ≡ accepted x) × Body at body e rest x
   unfolding wanted
   wanted-found {octet} {at} number {body} {rest = rest} (laid field f) r =
       let (x, e, b) = contents-found {head = octet ∷ []} {body = body} {rest = rest} (laid field f) r in
       (x, rw (lt-ltb at (length s) (omega (arith, r .ends)), eq-eqb _ _ (first r)) e, b)
 
+  -- where the contents stand of an element that fills what is left
+  pub filled : {octet at : ℕ} (field : Octets) {body : Octets} {x : Span} → Rest at (octet ∷ (field ++ body)) → Body at body (octet ∷ (field ++ body)) [] x →
+      Rest (x .start) body × (at + (1 + length field) ≡ x .start) × (x .end ≡ length s)
+  filled field {body} r b =
+      let z = length-append field body in
+      (again (append-nil body) (b .starts), omega (arith, b .size, b .ends, b .order), omega (arith, b .ends, r .ends))
+
   -- what a head goes on with
   walk : Head → Answer Layout
   walk h = parameters 64 s (h .set) (length s) >>= λ es. accepted (record { head = h; entries = es })
 
-begun : {head t : Octets} {at n d : ℕ} → Unheld component head at t n d → (u : Octets) × (t ≡ head ++ u)
+pub begun : {ns : Numbers} {head t : Octets} {at n d : ℕ} → Unheld ns head at t n d → (u : Octets) × (t ≡ head ++ u)
 begun (no-field u h) = (u, refl)
 begun (overrun {field = field} rest f h) = (field ++ rest, refl)
 
-begins : {head body e : Octets} → Element head body e → (rest : Octets) → (u : Octets) × (e ++ rest ≡ head ++ u)
+pub begins : {head body e : Octets} → Element head body e → (rest : Octets) → (u : Octets) × (e ++ rest ≡ head ++ u)
 begins {head} {body} (laid field f) rest = (field ++ (body ++ rest), simp append-assoc)
 
 module _ (s : Octets) (o : AreOctets s) where
-  contents-refused : {head t : Octets} {at n d : ℕ} → Unheld component head at t n d → Rest s at t → contents s at (at + length head) (length s) ≡ refused n d
+  pub contents-refused : {head t : Octets} {at n d : ℕ} → Unheld component head at t n d → Rest s at t → contents s at (at + length head) (length s) ≡ refused n d
   unfolding contents spanOf
   contents-refused {head} (no-field u h) r = let b = behind s head r in rw (seen s b, wrong (at-octets s b o) h)
   contents-refused {head} {at = at} (overrun {n} {field} rest f h) r =
@@ -122,7 +129,7 @@ module _ (s : Octets) (o : AreOctets s) where
       let c = behind s field b in
       rw (seen s b, Length.complete f rest, lt-leb (at + length head + length field + n) (length s) (omega (arith, c .ends)))
 
-  wanted-refused : {octet number at n d : ℕ} {t : Octets} → Unfound component octet number at t n d → Rest s at t → wanted s octet number at (length s) ≡ refused n d
+  pub wanted-refused : {octet number at n d : ℕ} {t : Octets} → Unfound component octet number at t n d → Rest s at t → wanted s octet number at (length s) ≡ refused n d
   unfolding wanted
   wanted-refused {at = at} ended r = let e : at ≡ length s = omega (arith, r .ends) in rw (le-ltb at (length s) (omega arith)) (ap (λ k. refused (component .end) k) (sym e))
   wanted-refused {at = at} (other {a} h) r = rw (lt-ltb at (length s) (omega (arith, r .ends)), first s r, ne-eqb a _ h)
@@ -164,13 +171,11 @@ module _ (s : Octets) (o : AreOctets s) where
         let z = length-append e (a ∷ rest) in
         let h : x .end < length s = omega (arith, b .ends, r .ends) in
         rw (g, ne-eqb (x .end) (length s) (omega arith)) (ap (λ k. refused (component .rest) k) (b .ends))
-    set-refused {at} (NoSet.inside {field} {set} f i) r =
+    set-refused (NoSet.inside {field} {set} f i) r =
         let q = again s {u = (0xF2 ∷ (field ++ set)) ++ []} (sym (append-nil _)) r in
         let (x, g, b) = wanted-found s 8 (laid field f) q in
-        let z = length-append field set in
-        let h : x .end ≡ length s = omega (arith, b .ends, r .ends) in
-        let e : at + (1 + length field) ≡ x .start = omega (arith, b .size, b .ends, b .order) in
-        let k = parameters-refused (rw e at i) (again s (append-nil set) (b .starts)) in
+        let (c, e, h) = filled s field r b in
+        let k = parameters-refused (rw e at i) c in
         rw (g, eq-eqb (x .end) (length s) h, k)
 
   -- ---- the code
@@ -223,7 +228,7 @@ module _ (s : Octets) (o : AreOctets s) where
       let e : x .start + length j ≡ i .end = sym (b .ends) in
       rw (last, g, b .size, fits a) (code-refused kind i (rw e at f) (moved s e (behind s j r)))
 
-all : (s : Octets) → Rest s 0 s
+pub all : (s : Octets) → Rest s 0 s
 all s = record { octets = refl; ends = zero-add (length s) }
 
 -- a component of a type, within 4,096 octets
@@ -236,10 +241,10 @@ module _ (s : Octets) (o : AreOctets s) (short : length s ≤ 4096) (some : 0 < 
   unfolding layoutAt layoutBehind headAt headFrom
   longer typed {x} e h = rw (lt-ltb 0 (length s) some, le-leb (length s) 4096 short, known typed, e, ne-eqb (x .end) (length s) (omega arith))
 
-  filled : Typed (getD s 0 0) → {x : Span} → contents s 0 1 (length s) ≡ accepted x → x .end ≡ length s → {t : Octets} {n d : ℕ} →
+  inside : Typed (getD s 0 0) → {x : Span} → contents s 0 1 (length s) ≡ accepted x → x .end ≡ length s → {t : Octets} {n d : ℕ} →
       NoBody (getD s 0 0) (x .start) t n d → Rest s (x .start) t → layoutOf s ≡ refused n d
   unfolding layoutAt layoutBehind headAt headFrom walk
-  filled typed {x} e last f r =
+  inside typed {x} e last f r =
       rw (lt-ltb 0 (length s) some, le-leb (length s) 4096 short, known typed, e, eq-eqb (x .end) (length s) last) (body-refused s o typed x last f r)
 
   whole-refused : {kind : ℕ} {t : Octets} {n d : ℕ} → s ≡ t → Typed kind → Whole kind t n d → layoutOf s ≡ refused n d
@@ -258,10 +263,10 @@ module _ (s : Octets) (o : AreOctets s) (short : length s ≤ 4096) (some : 0 < 
       let r = again s p (all s) in
       let q = again s (sym (append-nil _)) r in
       let (x, g, b) = contents-found s {head = kind ∷ []} {body = body} {rest = []} (laid field f) q in
-      let z = length-append field body in
-      let e : 1 + length field ≡ x .start = omega (arith, b .size, b .ends, b .order) in
+      let (c, to, last) = filled s field r b in
+      let e : 1 + length field ≡ x .start = omega (arith, to) in
       let k = first s r in
-      filled (rw (← k) at typed) g (omega (arith, b .ends, r .ends)) (rw (← k, e) at h) (again s (append-nil body) (b .starts))
+      inside (rw (← k) at typed) g last (rw (← k, e) at h) c
 
 some : {kind : ℕ} {t : Octets} {n d : ℕ} → Whole kind t n d → 0 < length t
 some (Whole.unheld f) = let (u, e) = begun f in rw e (omega arith)

@@ -1,13 +1,14 @@
 -- How a layout shows a component: type, ID octets, code, and each parameter by an entry, one of no octets included.
 use Prim.Native.Nat.{_+_, _-_, _≤_}
 use mathlib.Core.Path.{_≡_, refl, _∙_}
-use mathlib.Core.List.{List, [], _++_, append-assoc, append-nil}
+use mathlib.Core.List.{List, [], _++_, map, append-assoc, append-nil}
 use lib.ListN.{length, take, drop, length-append}
 use lib.Seq.{drop-append-seam, take-append-seam}
 use native.Mathlib.Omega.{arith}
 use Rattle.element.specs.Octets.{Octets, between}
 use Rattle.element.specs.Identifier.{IdentifierField}
 use Rattle.component.specs.Table.{Entry}
+use Rattle.component.specs.Onward.{entryOn}
 use Rattle.component.specs.Standing.{entryAt, Shows, Pairwise, none, more, entriesAt, standing}
 use Rattle.component.specs.Layout.{codeOctets, Layout}
 use Rattle.component.specs.Grammar.{Parameter, Element, laid, Parameters, Component, Laid}
@@ -66,6 +67,29 @@ set-show {head = head} {set} {kind = kind} r before (laid field v) (laid length-
 pub standing-show : {c : Component} {s : Octets} (h : Laid c s) → Pairwise (Shows s) (standing h) (c .parameters)
 unfolding standing
 standing-show h = set-show (h .parameters) (h .id ++ h .code) (h .collected) (h .whole)
+
+-- ---- and where other octets stand before it and behind it, the same entries moved on
+one-on : (before behind : Octets) {s : Octets} {e : Entry} {p : Parameter} → Shows s e p → Shows (before ++ s ++ behind) (entryOn (length before) e) p
+one-on before behind h =
+    record {
+      before = before ++ h .before;
+      identifier = h .identifier;
+      field = h .field;
+      behind = h .behind ++ behind;
+      octets = rw (h .octets) (simp append-assoc);
+      identified = h .identified;
+      sized = h .sized;
+      number = h .number;
+      form = h .form;
+      place = rw (h .place) (simp length-append);
+      start = rw (h .start) (simp length-append (omega arith));
+      size = h .size;
+    }
+
+pub shows-on : (before behind : Octets) {s : Octets} {es : List Entry} {ps : List Parameter} → Pairwise (Shows s) es ps →
+    Pairwise (Shows (before ++ s ++ behind)) (map (entryOn (length before)) es) ps
+shows-on before behind none = none
+shows-on before behind (more h r) = more (one-on before behind h) (shows-on before behind r)
 
 pub record Outlines (s : Octets) (l : Layout) (c : Component) : Type 0 where
   pub kind : l .head .kind ≡ c .kind

@@ -14,6 +14,10 @@ module _ {A : Type 0} {y : A} where
   passed true n d e = (refl, e)
   passed false n d e = let z : _≡_ {A = ℕ} 0 1 = cc in absurd (omega arith)
 
+-- a refusal of what a value is turned into is the answer's own
+pub refused-in : {A B : Type 0} (a : Answer A) (f : A → B) {n d : ℕ} → (a >>= λ x. accepted (f x)) ≡ refused n d → a ≡ refused n d
+refused-in (accepted x) f e = let z : _≡_ {A = ℕ} 0 1 = cc in absurd (omega arith)
+refused-in (refused n d) f e = cc
+
 pub stopped : {A B C : Type 0} (a : Answer A) (f : A → B) (g : A → Answer C) {n d : ℕ} → (a >>= λ x. accepted (f x)) ≡ refused n d → (a >>= g) ≡ refused n d
-stopped (accepted x) f g e = let z : _≡_ {A = ℕ} 0 1 = cc in absurd (omega arith)
-stopped (refused n d) f g e = cc
+stopped a f g e = rw (refused-in a f e)

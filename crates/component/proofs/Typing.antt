@@ -45,13 +45,13 @@ pub two-at-most : {kind count : ℕ} → Allowed kind count → count ≤ 2
 two-at-most {kind} h = omega (arith, most-two kind)
 
 -- ---- a number between two others
-within : (a b c : ℕ) → a ≤ b → b ≤ c → (leb a b && leb b c) ≡ true
+pub within : (a b c : ℕ) → a ≤ b → b ≤ c → (leb a b && leb b c) ≡ true
 within a b c h k = rw (le-leb a b h, le-leb b c k)
 
 between : (a b c : ℕ) → (leb a b && leb b c) ≡ true → (a ≤ b) × (b ≤ c)
 between a b c e = let (h, k) = and-eq-true-iff _ _ .0 e in (leb-true a b h, leb-true b c k)
 
-not-within : (a b c : ℕ) → ((a ≤ b) × (b ≤ c) → ⊥) → (leb a b && leb b c) ≡ false
+pub not-within : (a b c : ℕ) → ((a ≤ b) × (b ≤ c) → ⊥) → (leb a b && leb b c) ≡ false
 not-within a b c n = go (leb a b && leb b c) refl
   where
     go : (t : Bool) → (leb a b && leb b c) ≡ t → t ≡ false

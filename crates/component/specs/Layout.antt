@@ -42,6 +42,19 @@ wanted s octet number at end = do
   check (eqb (getD s at 0) octet) number at
   contents s at (at + 1) end
 
+-- the same steps where the parent ends with the octets: the element at `at`, whichever octet it begins with, and the
+-- element of one identifier octet that is wanted there
+unfoldable pub elementFrom : Octets → (at : ℕ) → Answer Span
+elementFrom s at = do
+  check (leb (length s) 4096) 2 0
+  check (ltb at (length s)) 5 (length s)
+  contents s at (at + 1) (length s)
+
+unfoldable pub wantedFrom : Octets → (octet number at : ℕ) → Answer Span
+wantedFrom s octet number at = do
+  check (leb (length s) 4096) 2 0
+  wanted s octet number at (length s)
+
 -- the set of parameters that is wanted at `at`, and has to end where its parent ends
 unfoldable pub setAt : Octets → (at end : ℕ) → Answer Span
 setAt s at end = do

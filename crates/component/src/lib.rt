@@ -5,10 +5,12 @@ mod types;
 
 pub use composing::compose;
 pub use composing::measure;
+pub use reading::element_from;
 pub use reading::head_from;
 pub use reading::parameter_from;
 pub use reading::part;
 pub use reading::part_fits;
+pub use reading::wanted_from;
 
 // The numbers of an entry of a table: number, form, start and length of the contents, and place of the identifier.
 pub const WIDTH: usize = 5;

@@ -15,6 +15,8 @@ ghost use Rattle.component.specs.Layout.{
   span,
   contents,
   wanted,
+  elementFrom,
+  wantedFrom,
   setAt,
   codedAt,
   codeAt,
@@ -87,6 +89,44 @@ fn wanted_at(s: &[u8], octet: u8, number: u8, at: usize, end: usize) -> Span
         number,
         detail: at as u32,
     }
+}
+
+// The element at `at`, whichever octet it begins with, in a parent that ends where the octets end.
+pub fn element_from(octets: &[u8], at: usize) -> Span
+    ensures { λ r. ⌜ spanIn r ≡ elementFrom (now (octets .entry)) at ⌝ }
+{
+    if 4096 < octets.len() {
+        return Span::Refused {
+            number: 2,
+            detail: 0,
+        };
+    }
+    if octets.len() <= at {
+        return Span::Refused {
+            number: 5,
+            detail: octets.len() as u32,
+        };
+    }
+    contents_at(octets, at, at + 1, octets.len())
+}
+
+// The element of one identifier octet that is wanted at `at`, in such a parent.
+pub fn wanted_from(octets: &[u8], octet: u8, number: u8, at: usize) -> Span
+    ensures { λ r. ⌜ spanIn r ≡ wantedFrom (now (octets .entry)) octet number at ⌝ }
+{
+    if 4096 < octets.len() {
+        return Span::Refused {
+            number: 2,
+            detail: 0,
+        };
+    }
+    if octets.len() < at {
+        return Span::Refused {
+            number: 5,
+            detail: octets.len() as u32,
+        };
+    }
+    wanted_at(octets, octet, number, at, octets.len())
 }
 
 // The set of parameters that is wanted at `at`, and has to end where its parent ends.

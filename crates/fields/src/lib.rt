@@ -1,10 +1,10 @@
 // The loop that reads and writes: tagged fields are read from one descriptor, and lines are written to another. No
 // contract can say what is read or written, so these functions are proved safe and ending and state no outcome. What a
-// field does to the run is `lines::list_field`, which states all of it. A read or a write that fails ends the run, and
-// is said on standard error.
+// field does to the run is `lines::list_field`, or `lines::list_package`, which state all of it. A read or a write that
+// fails ends the run, and is said on standard error.
 use lines::Field;
 use lines::Kept;
-use lines::LONGEST;
+use lines::LONGEST_PACKAGE;
 use lines::Listed;
 ghost use Prim.Native.Nat.{_≤_};
 ghost use lib.ListN.{length};
@@ -31,6 +31,8 @@ struct Head {
 
 // The listing between two fields.
 struct Run {
+    // Whether packages are listed, and no components.
+    packages: bool,
     left: Left,
     kept: Kept,
     // How many octets of lines wait to be written.
@@ -127,10 +129,10 @@ pub fn close(to: i32) -> bool {
     closed
 }
 
-// Room for the next line: those that wait are written where the longest has no room behind them.
+// Room for the lines of the next item: those that wait are written where the longest have no room behind them.
 fn make_room(to: i32, mut run: Run, text: &[u8]) -> Run {
     if run.filled <= text.len() {
-        if LONGEST <= text.len() - run.filled {
+        if LONGEST_PACKAGE <= text.len() - run.filled {
             return run;
         }
     }
@@ -164,7 +166,22 @@ impl Run {
     }
 }
 
-// A whole field. The empty output has room for the longest line.
+fn list_item(
+    packages: bool,
+    kept: Kept,
+    tag: u8,
+    contents: &[u8],
+    table: &mut [u16],
+    text: &mut [u8],
+    at: usize,
+) -> Listed {
+    if packages {
+        return lines::list_package(kept, tag, contents, table, text, at);
+    }
+    lines::list_field(kept, tag, contents, table, text, at)
+}
+
+// A whole field. The empty output has room for the longest lines.
 fn list_field(
     to: i32,
     run: Run,
@@ -179,7 +196,7 @@ fn list_field(
     }
     let place = run.filled;
     let kept = run.kept;
-    match lines::list_field(kept, tag, contents, table, text, place) {
+    match list_item(run.packages, kept, tag, contents, table, text, place) {
         Listed::Done { kept, at } => {
             run.kept = kept;
             run.filled = at;
@@ -189,7 +206,7 @@ fn list_field(
     run
 }
 
-// The contents of a field; of a component one octet more is kept than any has.
+// The contents of a field; of an item one octet more is kept than any has.
 fn list_contents(
     from: i32,
     to: i32,
@@ -197,18 +214,18 @@ fn list_contents(
     tag: u8,
     size: usize,
     piece: &mut [u8],
-    component: &mut [u8],
+    octets: &mut [u8],
     table: &mut [u16],
     text: &mut [u8],
 ) -> Run {
     let left = run.left;
-    let taken = take(from, piece, left, component, size);
+    let taken = take(from, piece, left, octets, size);
     let left = taken.left;
     if taken.count < size {
         return run.stopped(left, true);
     }
     run.left = left;
-    list_field(to, run, tag, front(component, size), table, text)
+    list_field(to, run, tag, front(octets, size), table, text)
 }
 
 fn step(
@@ -216,7 +233,7 @@ fn step(
     to: i32,
     mut run: Run,
     piece: &mut [u8],
-    component: &mut [u8],
+    octets: &mut [u8],
     table: &mut [u16],
     text: &mut [u8],
 ) -> Run {
@@ -228,19 +245,20 @@ fn step(
     match field {
         Field::Cut => run.stopped(left, 0 < head.count),
         Field::Of { tag, size } => {
-            list_contents(from, to, run, tag, size, piece, component, table, text)
+            list_contents(from, to, run, tag, size, piece, octets, table, text)
         }
     }
 }
 
 // Lists the fields of the input. A proved loop has to end, and nothing says that the input does. So the loop counts its
 // turns down, from a number that no run uses up. Answers whether all was read and written.
-pub fn list(from: i32, to: i32, component: &mut [u8], table: &mut [u16]) -> bool {
+fn list_fields(from: i32, to: i32, packages: bool, octets: &mut [u8], table: &mut [u16]) -> bool {
     let mut pieces = [0u8; 16384];
     let piece: &mut [u8] = &mut pieces;
     let mut texts = [0u8; 8192];
     let text: &mut [u8] = &mut texts;
     let mut run = Run {
+        packages,
         left: Left {
             at: 0,
             end: 0,
@@ -254,8 +272,18 @@ pub fn list(from: i32, to: i32, component: &mut [u8], table: &mut [u16]) -> bool
     };
     let mut turns = u64::MAX;
     while 0 < turns && run.more {
-        run = step(from, to, run, piece, component, table, text);
+        run = step(from, to, run, piece, octets, table, text);
         turns = turns - 1;
     }
     finish(to, run, text)
+}
+
+// Lists the components of the input, with octets and a table lent for one of them.
+pub fn list(from: i32, to: i32, component: &mut [u8], table: &mut [u16]) -> bool {
+    list_fields(from, to, false, component, table)
+}
+
+// Lists the packages of the input, with octets and a table lent for one of them.
+pub fn list_packages(from: i32, to: i32, package: &mut [u8], table: &mut [u16]) -> bool {
+    list_fields(from, to, true, package, table)
 }

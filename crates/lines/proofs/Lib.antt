@@ -5,3 +5,5 @@ pub mod Stepping
 pub mod Following
 pub mod Fronting
 pub mod Inputs
+pub mod Parcels
+pub mod Handed

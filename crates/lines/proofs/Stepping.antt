@@ -1,4 +1,4 @@
--- The laws of a field listed into a lent text: no room; a field that is skipped; a component.
+-- The laws of a field listed into a lent text: no room; a field that is skipped; an item.
 use Prim.Native.Nat.{ℕ, zero, suc, _+_, _/_, _%_, _<_, _≤_}
 use mathlib.Core.Path.{_≡_, _∙_}
 use mathlib.Core.Bool.{Bool, true, false}
@@ -12,16 +12,14 @@ use Rattle.element.specs.Octets.{Octets, if}
 use Rattle.element.specs.Answer.{Answer, accepted, refused}
 use Rattle.element.specs.Field.{outputAfter}
 use Rattle.element.proofs.FieldLaws.{put-none, roomy}
-use Rattle.operation.specs.Reading.{reading, tableAfter}
 use Rattle.operation.specs.Caller.{Told}
-use Rattle.operation.specs.Told.{told}
 use Rattle.lines.specs.declared.Kept as K
 use Rattle.lines.specs.declared.Line.the-variants as LV
 use Rattle.lines.specs.declared.Listed as S
 use Rattle.lines.specs.declared.Listed.the-variants as SV
 use Rattle.lines.specs.Decimal.{digits, decimal}
-use Rattle.lines.specs.Line.{cell, row, lineOf, lineWritten}
-use Rattle.lines.specs.Listing.{Tagged, after, lineFor, longest, listed, tableLeft, textLeft}
+use Rattle.lines.specs.Line.{cell, row, longest, lineOf, lineWritten}
+use Rattle.lines.specs.Listing.{Subject, Tagged, after, linesFor, listed, tableLeft, textLeft}
 
 -- ---- no line is longer than the longest
 few : (most n : ℕ) → length (digits most n) ≤ most
@@ -37,7 +35,7 @@ short : (number mark : ℕ) → length (cell number mark) ≤ 21
 unfolding cell decimal
 short number mark = simp length-append (omega (arith, few 20 number))
 
-row-short : (item answer detail named other : ℕ) → length (row item answer detail named other) ≤ longest
+pub row-short : (item answer detail named other : ℕ) → length (row item answer detail named other) ≤ longest
 unfolding row
 row-short item answer detail named other =
     simp length-append (omega (arith, short item 32, short answer 32, short detail 32, short named 32, short other 10))
@@ -48,44 +46,43 @@ line-short item (accepted t) = row-short item 0 0 (t .named) (t .other)
 line-short item (refused n d) = row-short item n d 0 0
 
 -- ---- a step
-module _ (kept : K.Kept) (f : Tagged) (at : ℕ) (table : List ℕ) (text : Octets) where
+module _ (x : Subject) (kept : K.Kept) (f : Tagged) (at : ℕ) (table : List ℕ) (text : Octets) where
   abbrev Outcome : S.Listed → List ℕ → Octets → Type 0
   Outcome answer table′ text′ =
-      (answer ≡ listed kept f at table text) × (table′ ≡ tableLeft kept f at table text) × (text′ ≡ textLeft kept f at table text)
+      (answer ≡ listed x kept f at table text) × (table′ ≡ tableLeft x kept f at table text) × (text′ ≡ textLeft x kept f at table text)
 
-  pub cramped : length text < at + longest → Outcome SV.NoRoom table text
+  pub cramped : length text < at + x .longest → Outcome SV.NoRoom table text
   unfolding listed tableLeft textLeft
-  cramped h = let e = lt-leb (at + longest) (length text) h in (simp e, simp e, simp e)
+  cramped h = let e = lt-leb (at + x .longest) (length text) h in (simp e, simp e, simp e)
 
-  module _ (h : at + longest ≤ length text) where
-    pub skipped : (f .tag ≡ 1 → ⊥) → {behind : K.Kept} → behind ≡ after kept f → Outcome (SV.Done behind at) table text
-    unfolding listed tableLeft textLeft lineFor
+  module _ (h : at + x .longest ≤ length text) where
+    pub skipped : (f .tag ≡ x .tag → ⊥) → {behind : K.Kept} → behind ≡ after (x .tag) kept f → Outcome (SV.Done behind at) table text
+    unfolding listed tableLeft textLeft linesFor
     skipped not-one e =
-        let there = le-leb (at + longest) (length text) h in
-        let other = ne-eqb (f .tag) 1 not-one in
+        let there = le-leb (at + x .longest) (length text) h in
+        let other = ne-eqb (f .tag) (x .tag) not-one in
         (simp (there, other, e, add-zero), simp (there, other), simp (there, other, put-none))
 
-    module _ (one : f .tag ≡ 1) {behind : K.Kept} (e : behind ≡ after kept f) {a : Answer Told}
-        (tells : a ≡ told (reading (f .contents) (kept .specifier) (length table))) where
-      line : lineOf (behind .item) a ≡ lineFor (length table) kept f
-      unfolding lineFor
-      line = simp (eq-eqb (f .tag) 1 one, e, tells)
+    module _ (one : f .tag ≡ x .tag) {behind : K.Kept} (e : behind ≡ after (x .tag) kept f) {lines : Octets}
+        (is : lines ≡ x .lines (behind .item) (kept .specifier) (length table) (f .contents)) (short : length lines ≤ x .longest) where
+      are : lines ≡ linesFor x (length table) kept f
+      unfolding linesFor
+      are = is ∙ simp (eq-eqb (f .tag) (x .tag) one, e)
 
-      there : at + length (lineFor (length table) kept f) ≤ length text
-      there = omega (arith, rw line at (line-short (behind .item) a))
+      there : at + length lines ≤ length text
+      there = omega arith
 
-      written : lineWritten (lineOf (behind .item) a) at text ≡ LV.Written (at + length (lineFor (length table) kept f))
+      written : lineWritten lines at text ≡ LV.Written (at + length lines)
       unfolding lineWritten
-      written = rw line (simp (le-leb (at + length (lineFor (length table) kept f)) (length text) there))
+      written = simp (le-leb (at + length lines) (length text) there)
 
-      pub never : {answer : S.Listed} {table′ : List ℕ} {text′ : Octets} → LV.NoRoom ≡ lineWritten (lineOf (behind .item) a) at text → Outcome answer table′ text′
+      pub never : {answer : S.Listed} {table′ : List ℕ} {text′ : Octets} → LV.NoRoom ≡ lineWritten lines at text → Outcome answer table′ text′
       never p = let z : _≡_ {A = ℕ} 0 1 = cc (p ∙ written) in absurd (omega arith)
 
-      pub component : {next : ℕ} {table′ : List ℕ} {text′ : Octets} → LV.Written next ≡ lineWritten (lineOf (behind .item) a) at text →
-          table′ ≡ tableAfter table (reading (f .contents) (kept .specifier) (length table)) →
-          text′ ≡ outputAfter (lineOf (behind .item) a) at text → Outcome (SV.Done behind next) table′ text′
+      pub item : {next : ℕ} {table′ : List ℕ} {text′ : Octets} → LV.Written next ≡ lineWritten lines at text →
+          table′ ≡ x .left (kept .specifier) (f .contents) table → text′ ≡ outputAfter lines at text → Outcome (SV.Done behind next) table′ text′
       unfolding listed tableLeft textLeft
-      component {next} w p q =
-          let fits = le-leb (at + longest) (length text) h in
-          let behind-it : next ≡ at + length (lineFor (length table) kept f) = cc (w ∙ written) in
-          (simp (fits, e, behind-it), p ∙ simp (fits, eq-eqb (f .tag) 1 one), (rw line at q) ∙ roomy _ _ _ there ∙ simp fits)
+      item {next} w p q =
+          let fits = le-leb (at + x .longest) (length text) h in
+          let behind-it : next ≡ at + length lines = cc (w ∙ written) in
+          (simp (fits, e, behind-it, are), p ∙ simp (fits, eq-eqb (f .tag) (x .tag) one), q ∙ roomy _ _ _ there ∙ simp (fits, are))

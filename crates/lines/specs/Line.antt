@@ -25,6 +25,10 @@ unfoldable pub row : (item answer detail named other : ℕ) → Octets
 row item answer detail named other =
     cell item blank ++ cell answer blank ++ cell detail blank ++ cell named blank ++ cell other feed
 
+-- five numbers of twenty digits, and the octet behind each
+abbrev pub longest : ℕ
+longest = 105
+
 -- accepted is 0, detail 0; the counts are 0 on refusal
 unfoldable pub lineOf : (item : ℕ) → Answer Told → Octets
 lineOf item (accepted t) = row item 0 0 (t .named) (t .other)

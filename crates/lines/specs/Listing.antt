@@ -15,7 +15,7 @@ use Rattle.lines.specs.declared.Kept as K
 use Rattle.lines.specs.declared.Listed as L
 use Rattle.lines.specs.declared.Listed.the-variants as LV
 use Rattle.lines.specs.Header.{fieldAt}
-use Rattle.lines.specs.Line.{lineOf}
+use Rattle.lines.specs.Line.{longest, lineOf}
 
 pub record Tagged : Type 0 where
   pub tag : ℕ
@@ -28,51 +28,77 @@ tagged tag contents = record { tag = tag; contents = contents }
 unfoldable pub octetsOf : Tagged → Octets
 octetsOf f = f .tag ∷ (length (f .contents) / 256) ∷ (length (f .contents) % 256) ∷ f .contents
 
+-- ---- what is listed
+-- fields of one tag, the items. A text begins with `header`, and has for each item `lines`, of at most `longest` octets:
+-- by its number, the kept specifier, how many numbers the lent table has, and its octets. Reading it leaves `left` there
+pub record Subject : Type 0 where
+  pub tag : ℕ
+  pub header : Octets
+  pub room : ℕ
+  pub longest : ℕ
+  pub lines : (item specifier room : ℕ) (contents : Octets) → Octets
+  pub left : (specifier : ℕ) (contents : Octets) (table : List ℕ) → List ℕ
+
+-- `item answer detail named other`
+abbrev pub headerLine : Octets
+headerLine =
+    0x69 ∷ 0x74 ∷ 0x65 ∷ 0x6D ∷ 0x20 ∷ 0x61 ∷ 0x6E ∷ 0x73 ∷ 0x77 ∷ 0x65 ∷ 0x72 ∷ 0x20
+    ∷ 0x64 ∷ 0x65 ∷ 0x74 ∷ 0x61 ∷ 0x69 ∷ 0x6C ∷ 0x20 ∷ 0x6E ∷ 0x61 ∷ 0x6D ∷ 0x65 ∷ 0x64 ∷ 0x20
+    ∷ 0x6F ∷ 0x74 ∷ 0x68 ∷ 0x65 ∷ 0x72 ∷ 0x0A ∷ []
+
+-- components have tag 1, and a line each
+abbrev pub components : Subject
+components =
+    record {
+      tag = 1;
+      header = headerLine;
+      room = tableSize;
+      longest = longest;
+      lines = λ item specifier room s. lineOf item (told (reading s specifier room));
+      left = λ specifier s table. tableAfter table (reading s specifier (length table));
+    }
+
 -- ---- what a field does to the run
--- what is kept at the start: the specifier for later results, and how many tag 1 fields there were
+-- what is kept at the start: the specifier for later items, and how many items there were
 abbrev pub start : K.Kept
 start = record { specifier = 0; item = 0 }
 
--- tag 1 is one item more, counted in 64 bits; tag 2 with one octet sets the specifier; all else changes nothing
-unfoldable pub after : K.Kept → Tagged → K.Kept
-after kept f =
-    if (eqb (f .tag) 1) (record { specifier = kept .specifier; item = (kept .item + 1) % 2 ^ 64 })
+-- the tag that is listed is one item more, counted in 64 bits; tag 2 with one octet sets the specifier; all else changes
+-- nothing
+unfoldable pub after : (tag : ℕ) → K.Kept → Tagged → K.Kept
+after tag kept f =
+    if (eqb (f .tag) tag) (record { specifier = kept .specifier; item = (kept .item + 1) % 2 ^ 64 })
     (if (eqb (f .tag) 2 && eqb (length (f .contents)) 1)
     (record { specifier = getD (f .contents) 0 0; item = kept .item })
     kept)
 
--- the line of a tag 1 field, read with a table of `room` numbers; other tags have none
-unfoldable pub lineFor : (room : ℕ) → K.Kept → Tagged → Octets
-lineFor room kept f =
-    if (eqb (f .tag) 1) (lineOf (after kept f .item) (told (reading (f .contents) (kept .specifier) room))) []
+module _ (x : Subject) where
+  -- the lines of an item, read with a table of `room` numbers; other tags have none
+  unfoldable pub linesFor : (room : ℕ) → K.Kept → Tagged → Octets
+  linesFor room kept f =
+      if (eqb (f .tag) (x .tag)) (x .lines (after (x .tag) kept f .item) (kept .specifier) room (f .contents)) []
 
-unfoldable pub listing : (room : ℕ) → K.Kept → List Tagged → Octets
-listing room kept [] = []
-listing room kept (f ∷ fs) = lineFor room kept f ++ listing room (after kept f) fs
+  unfoldable pub listing : (room : ℕ) → K.Kept → List Tagged → Octets
+  listing room kept [] = []
+  listing room kept (f ∷ fs) = linesFor room kept f ++ listing room (after (x .tag) kept f) fs
 
--- ---- a field listed into a lent text: there has to be room for the longest line, else nothing changes
-abbrev pub longest : ℕ
-longest = 105
-
-module _ (kept : K.Kept) (f : Tagged) (at : ℕ) (table : List ℕ) (text : Octets) where
+-- ---- a field listed into a lent text: there has to be room for the longest lines, else nothing changes
+module _ (x : Subject) (kept : K.Kept) (f : Tagged) (at : ℕ) (table : List ℕ) (text : Octets) where
   abbrev pub roomy : Bool
-  roomy = leb (at + longest) (length text)
+  roomy = leb (at + x .longest) (length text)
 
-  abbrev pub lineThere : Octets
-  lineThere = lineFor (length table) kept f
+  abbrev pub linesThere : Octets
+  linesThere = linesFor x (length table) kept f
 
   unfoldable pub listed : L.Listed
-  listed = if roomy (LV.Done (after kept f) (at + length lineThere)) LV.NoRoom
+  listed = if roomy (LV.Done (after (x .tag) kept f) (at + length linesThere)) LV.NoRoom
 
   unfoldable pub textLeft : Octets
-  textLeft = if roomy (put lineThere at text) text
+  textLeft = if roomy (put linesThere at text) text
 
-  -- a tag 1 field is read into the table, and other tags leave it
+  -- an item is read into the table, and other tags leave it
   unfoldable pub tableLeft : List ℕ
-  tableLeft =
-      if (roomy && eqb (f .tag) 1)
-      (tableAfter table (reading (f .contents) (kept .specifier) (length table)))
-      table
+  tableLeft = if (roomy && eqb (f .tag) (x .tag)) (x .left (kept .specifier) (f .contents) table) table
 
 -- ---- the fields of an input
 -- a field is whole once it has as many octets as its header says
@@ -102,16 +128,9 @@ unfoldable pub inputOf : Octets → Input
 inputOf s = inputFrom [] s
 
 -- ---- what is printed
--- `item answer detail named other`
-abbrev pub headerLine : Octets
-headerLine =
-    0x69 ∷ 0x74 ∷ 0x65 ∷ 0x6D ∷ 0x20 ∷ 0x61 ∷ 0x6E ∷ 0x73 ∷ 0x77 ∷ 0x65 ∷ 0x72 ∷ 0x20
-    ∷ 0x64 ∷ 0x65 ∷ 0x74 ∷ 0x61 ∷ 0x69 ∷ 0x6C ∷ 0x20 ∷ 0x6E ∷ 0x61 ∷ 0x6D ∷ 0x65 ∷ 0x64 ∷ 0x20
-    ∷ 0x6F ∷ 0x74 ∷ 0x68 ∷ 0x65 ∷ 0x72 ∷ 0x0A ∷ []
-
 -- `cut`
 abbrev pub cutLine : Octets
 cutLine = 0x63 ∷ 0x75 ∷ 0x74 ∷ 0x0A ∷ []
 
-unfoldable pub printed : (input : Octets) → Octets
-printed s = headerLine ++ listing tableSize start (inputOf s .fields) ++ if (inputOf s .cut) cutLine []
+unfoldable pub printed : Subject → (input : Octets) → Octets
+printed x s = x .header ++ listing x (x .room) start (inputOf s .fields) ++ if (inputOf s .cut) cutLine []

@@ -18,7 +18,7 @@ use Rattle.operation.specs.Told.{told}
 use Rattle.lines.specs.Header.{fieldAt}
 use Rattle.lines.specs.Decimal.{digits, decimal}
 use Rattle.lines.specs.Line.{cell, row, lineOf}
-use Rattle.lines.specs.Listing.{after, lineFor, listing, fills, whole, inputFrom, inputOf, printed}
+use Rattle.lines.specs.Listing.{components, after, linesFor, listing, fills, whole, inputFrom, inputOf, printed}
 use Rattle.lines.specs.Listing.{headerLine, cutLine}
 
 abbrev input : Octets
@@ -33,23 +33,23 @@ lines =
     0x31 ∷ 0x20 ∷ 0x30 ∷ 0x20 ∷ 0x30 ∷ 0x20 ∷ 0x31 ∷ 0x20 ∷ 0x30 ∷ 0x0A
     ∷ 0x32 ∷ 0x20 ∷ 0x35 ∷ 0x20 ∷ 0x32 ∷ 0x20 ∷ 0x30 ∷ 0x20 ∷ 0x30 ∷ 0x0A ∷ []
 
-pub sample : printed input ≡ headerLine ++ lines
+pub sample : printed components input ≡ headerLine ++ lines
 unfolding lengthAt within numbered identifierAt spanOf contents wanted setAt formatOf typed idFits codedAt codeAt
     behindId bodyAt headFrom headAt parameter parameterAt parameters layoutBehind layoutAt codeOctets operationPlace
     key numberOf members someOf among onLine asks named repeats occurs lastMark once met present doubled single
     judge countNamed operations find rowed rowOf itemOf operationOf toldCode operationIn countOther shownOf readingAt
-    told fieldAt digits decimal cell row lineOf after lineFor listing fills whole inputFrom inputOf printed
+    told fieldAt digits decimal cell row lineOf after linesFor listing fills whole inputFrom inputOf printed
 sample = refl
 
 -- no field; a header of two octets; a specifier field of two octets of which one is there
-pub no-field : printed [] ≡ headerLine
+pub no-field : printed components [] ≡ headerLine
 unfolding listing inputFrom inputOf printed
 no-field = refl
 
-pub header-cut : printed (0x02 ∷ 0x00 ∷ []) ≡ headerLine ++ cutLine
+pub header-cut : printed components (0x02 ∷ 0x00 ∷ []) ≡ headerLine ++ cutLine
 unfolding fieldAt listing fills whole inputFrom inputOf printed
 header-cut = refl
 
-pub contents-cut : printed (0x02 ∷ 0x00 ∷ 0x02 ∷ 0x04 ∷ []) ≡ headerLine ++ cutLine
+pub contents-cut : printed components (0x02 ∷ 0x00 ∷ 0x02 ∷ 0x04 ∷ []) ≡ headerLine ++ cutLine
 unfolding fieldAt listing fills whole inputFrom inputOf printed
 contents-cut = refl

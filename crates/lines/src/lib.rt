@@ -1,5 +1,9 @@
 // The listing on values and slices: the header of a tagged field, what a field does to the run, the line of a reading.
+mod packages;
+
 use operation::Reading;
+pub use packages::LONGEST_PACKAGE;
+pub use packages::list_package;
 use std::num::wrapping_add_u64;
 ghost use mathlib.Core.Path.{_≡_};
 ghost use Prim.Native.Nat.{_+_, _≤_, _<_};
@@ -8,8 +12,8 @@ ghost use Rattle.element.specs.Field.{outputAfter};
 ghost use Rattle.operation.specs.Told.{answerIn};
 ghost use Rattle.lines.specs.Header.{fieldAt};
 ghost use Rattle.lines.specs.Decimal.{decimal};
-ghost use Rattle.lines.specs.Line.{cell, row, lineOf, lineWritten, Front};
-ghost use Rattle.lines.specs.Listing.{tagged, start, after, listed, tableLeft, textLeft};
+ghost use Rattle.lines.specs.Line.{cell, row, longest, lineOf, lineWritten, Front};
+ghost use Rattle.lines.specs.Listing.{tagged, components, start, after, listed, tableLeft, textLeft};
 
 pub enum Field {
     // A tag, and how many octets of contents follow.
@@ -26,9 +30,9 @@ pub enum Line {
 
 // What is kept between two fields.
 pub struct Kept {
-    // For the results behind it.
+    // For the items behind it.
     pub specifier: u8,
-    // How many components there were.
+    // How many items there were.
     pub item: u64,
 }
 
@@ -72,11 +76,12 @@ impl Kept {
         }
     }
 
-    // A component is counted, a specifier is kept for the results behind it, and all else is skipped.
-    pub fn after(mut self, tag: u8, contents: &[u8]) -> Self
-        ensures { λ r. ⌜ r ≡ after self (tagged tag (now (contents .entry))) ⌝ }
+    // An item, which is a field with the tag that is listed, is counted, a specifier is kept for the items behind it, and
+    // all else is skipped.
+    pub fn after(mut self, listed: u8, tag: u8, contents: &[u8]) -> Self
+        ensures { λ r. ⌜ r ≡ after listed self (tagged tag (now (contents .entry))) ⌝ }
     {
-        if tag == 1 {
+        if tag == listed {
             self.item = wrapping_add_u64(self.item, 1);
             return self;
         }
@@ -99,11 +104,12 @@ pub fn list_field(
     text: &mut [u8],
     at: usize,
 ) -> Listed
-    ensures { λ r. ⌜ (r ≡ listed kept (tagged tag (now (contents .entry))) at (now (table .entry)) (now (text .entry)))
+    ensures { λ r. ⌜ (r ≡
+        listed components kept (tagged tag (now (contents .entry))) at (now (table .entry)) (now (text .entry)))
         × (now (table .exit) ≡
-        tableLeft kept (tagged tag (now (contents .entry))) at (now (table .entry)) (now (text .entry)))
+        tableLeft components kept (tagged tag (now (contents .entry))) at (now (table .entry)) (now (text .entry)))
         × (now (text .exit) ≡
-        textLeft kept (tagged tag (now (contents .entry))) at (now (table .entry)) (now (text .entry))) ⌝ }
+        textLeft components kept (tagged tag (now (contents .entry))) at (now (table .entry)) (now (text .entry))) ⌝ }
 {
     if text.len() < at {
         return Listed::NoRoom;
@@ -111,7 +117,7 @@ pub fn list_field(
     if text.len() - at < LONGEST {
         return Listed::NoRoom;
     }
-    let behind = kept.after(tag, contents);
+    let behind = kept.after(1, tag, contents);
     if tag != 1 {
         return Listed::Done { kept: behind, at };
     }
@@ -161,12 +167,29 @@ fn write_row(
 {
     // From the line's end to its start, which is known last.
     let mut text = [0u8; LONGEST];
-    let fifth = number_before(other, b'\n', &mut text, LONGEST);
-    let fourth = number_before(named, b' ', &mut text, fifth);
-    let third = number_before(detail, b' ', &mut text, fourth);
-    let second = number_before(answer, b' ', &mut text, third);
-    let first = number_before(item, b' ', &mut text, second);
+    let first = row_before(item, answer, detail, named, other, &mut text, LONGEST);
     put(&text[first..], out, at)
+}
+
+// A line, in front of what stands at a position; answers where it starts.
+fn row_before(
+    item: u64,
+    answer: u64,
+    detail: u64,
+    named: u64,
+    other: u64,
+    text: &mut [u8],
+    at: usize,
+) -> usize
+    requires { ⌜ (longest ≤ at) × (at ≤ length (now text)) ⌝ }
+    ensures { λ r. ⌜ Front (row item answer detail named other) at (now (text .entry)) r (now (text .exit))
+        × (at ≤ r + longest) ⌝ }
+{
+    let fifth = number_before(other, b'\n', text, at);
+    let fourth = number_before(named, b' ', text, fifth);
+    let third = number_before(detail, b' ', text, fourth);
+    let second = number_before(answer, b' ', text, third);
+    number_before(item, b' ', text, second)
 }
 
 // A number and the octet behind it, in front of what stands at a position; answers where they start.

@@ -24,9 +24,11 @@ pub mod Outcomes
 pub mod DraftingErrors
 pub mod Counts
 pub mod OnlyOne
+pub mod Again
 pub mod Model
 pub mod Truthful
 pub mod Charts
 pub mod Excluded
 pub mod Shift
 pub mod Packing
+pub mod Inside

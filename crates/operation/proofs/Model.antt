@@ -1,31 +1,28 @@
 -- Ours satisfies the demands.
 use Prim.Native.Nat.{ℕ, zero, suc, _+_, _*_, _<_, _≤_}
-use mathlib.Core.Path.{_≡_, refl, sym, ap, ap₂, _∙_}
-use mathlib.Core.Bool.{Bool, true, false}
-use mathlib.Core.List.{List, [], _∷_, map}
+use mathlib.Core.Path.{_≡_, refl, sym, ap, _∙_}
+use mathlib.Core.List.{List, map}
 use mathlib.Core.Logic.{_⊎_, inl, inr, ⊎-elim}
 use lib.ListN.{length, getD, take, drop}
-use lib.Dec.{eqb}
-use borrow.Author.Tests.{eqb-true, ne-eqb}
+use borrow.Author.Tests.{ne-eqb}
 use lib.Seq.{take-append-seam}
 use native.Mathlib.Decide.{decLt, decLe, ℕ-discrete}
 use native.Mathlib.Omega.{arith}
-use Rattle.element.specs.Octets.{Octets, AreOctets, if}
+use Rattle.element.specs.Octets.{Octets, AreOctets}
 use Rattle.element.specs.Answer.{Answer, accepted, refused}
 use Rattle.component.specs.Layout.{Layout, layoutOf, operationPlace}
 use Rattle.component.specs.Grammar.{Laid, Component}
-use Rattle.component.specs.Standing.{Shows, Pairwise, standing}
+use Rattle.component.specs.Standing.{Shows, Pairwise}
 use Rattle.component.specs.Composed.{composed}
-use Rattle.component.specs.Table.{width, tableSize, tableWith, held, heldFrom, parametersFrom, codeOf, writtenCode, componentOf}
+use Rattle.component.specs.Table.{width, tableSize, held, heldFrom, parametersFrom, codeOf, writtenCode, componentOf}
 use Rattle.component.specs.declared.Code as E
 use Rattle.component.specs.Types.{Typed, formatOf}
 use Rattle.element.specs.Output.{written, outputAfter}
 use Rattle.component.proofs.Ends.{Ends, gives, given as Ends·given, stopped, then, at-most}
 use Rattle.component.proofs.Asking.{answered}
-use Rattle.component.proofs.Taken.{taken}
-use Rattle.component.proofs.Making.{makes, code-again, no-code, entries-again, octets-again}
-use Rattle.component.proofs.Composable.{Composable}
-use Rattle.component.proofs.Composes.{composes, laid-composable}
+use Rattle.component.proofs.Taken.{taken, refused-in}
+use Rattle.component.proofs.Making.{makes}
+use Rattle.component.proofs.Composes.{composes}
 use Rattle.component.proofs.Shortening.{shorter}
 use Rattle.component.proofs.Entries.{as-many, holds, shown-are}
 use Rattle.component.proofs.Shown.{standing-show}
@@ -39,16 +36,16 @@ use Rattle.operation.specs.Judge.{judge}
 use Rattle.operation.specs.Finding.{rowOf}
 use Rattle.operation.specs.Reading.{Shown, operationIn, reading, readingAt, shownOf}
 use Rattle.operation.specs.Items.{itemOf, itemsOf}
-use Rattle.operation.specs.Writing.{writing}
 use Rattle.operation.specs.Codes.{operationOf, toldCode, heeded}
-use Rattle.operation.specs.Caller.{Told, Order, Wrote}
-use Rattle.operation.specs.Told.{told}
-use Rattle.operation.specs.Demands.{Rowed, RowFor, listed, unasked, itsOperation, itsCode, octetsFor, puts, handed, WrittenAgain, ReadAgain, ReaderRefuses, Right, tells, Stands, ordered, needed, made, Held, Ready, WriterRefuses, Writable, Demand1, Demand2}
-use Rattle.operation.specs.Model.{reader, writer, written-as}
+use Rattle.operation.specs.Caller.{Told, Order}
+use Rattle.operation.specs.Told.{toldOf, told}
+use Rattle.operation.specs.Demands.{RowFor, itsOperation, octetsFor, puts, handed, WrittenAgain, ReadAgain, ReaderRefuses, Right, tells, Stands, ordered, needed, made, Held, Ready, WriterRefuses, Writable, Demand1, Demand2}
+use Rattle.operation.specs.Model.{reader, writer}
 use Rattle.operation.proofs.Readings.{same-operation, either-row, row-ends}
-use Rattle.operation.proofs.RowsFound.{has-row, its-row, has-none}
-use Rattle.operation.proofs.Keys.{keys-written, fits-read, fits-written}
+use Rattle.operation.proofs.RowsFound.{has-row, has-none}
+use Rattle.operation.proofs.Keys.{keys-written, fits-read}
 use Rattle.operation.proofs.RowFaults.{row-faulty, row-either}
+use Rattle.operation.proofs.Again.{inner, composes-again, same-or-shorter}
 use Rattle.operation.proofs.OnlyOne.{reader-accepts, refused-so, ready, writer-refuses, writer-accepts}
 
 -- ---- the reader: what is refused is to be refused, and what is accepted is right
@@ -75,14 +72,7 @@ module _ (s : Octets) (o : AreOctets s) where
 
     read-back : {n d : ℕ} → reader s given t .answer ≡ refused n d → reading s given (length t) ≡ refused n d
     unfolding told
-    read-back {n} {d} e = go (reading s given (length t)) e
-      where
-        go : (a : Answer Shown) → told a ≡ refused n d → a ≡ refused n d
-        go (accepted x) f = let z : _≡_ {A = ℕ} 0 1 = cc in absurd (omega arith)
-        go (refused m c) f =
-            let p : m ≡ n = cc in
-            let q : c ≡ d = cc in
-            ap₂ (λ a b. refused a b) p q
+    read-back e = refused-in (reading s given (length t)) toldOf e
 
     refuses-rightly : {n d : ℕ} → reader s given t .answer ≡ refused n d → ReaderRefuses s given t n d × (reader s given t .table ≡ t)
     refuses-rightly e = let f = read-back e in (stopped reader-ends f, ap (λ x. x .table) (refused-so s o given t f))
@@ -93,6 +83,16 @@ module _ (s : Octets) (o : AreOctets s) where
       where
         given-right : {x : Shown} → reading s given (length t) ≡ accepted x → Rightly x
         given-right f = Ends·given reader-ends f
+
+    -- what is told of a component laid out
+    told-right : {x : Told} {c : Component} {row : Row} → reader s given t .answer ≡ accepted x → Right s given t c row → tells given c row ≡ x
+    told-right e r = inner (sym (ap (λ x. x .answer) (reader-accepts s o given t r)) ∙ e)
+
+    pub told-of : {x : Told} {c : Component} → reader s given t .answer ≡ accepted x → Laid c s → (row : Row) × Right s given t c row × (tells given c row ≡ x)
+    told-of e h =
+        let (d, row, r) = accepts-rightly e in
+        let q = rw (functional (r .laid-out .laid) h) at r in
+        (row, q, told-right e q)
 
     places : {c : Component} {row : Row} → Right s given t c row →
         Pairwise (Shows s) (heldFrom 0 (length (c .parameters)) (reader s given t .table)) (c .parameters)
@@ -185,29 +185,17 @@ pub demand1-ours : Demand1 reader writer
 demand1-ours = record { reader = λ s given t o e. refuses-rightly s o given t e; writer = λ o out e. writes-refusing o out e }
 
 -- ---- what was read is written again, and what was written is read again
-inner : {A : Type 0} {x y : A} → _≡_ {A = Answer A} (accepted x) (accepted y) → x ≡ y
-inner e = cc
+reads-then-writes : (s : Octets) (given : ℕ) (t : List ℕ) (out : Octets) {x : Told} {c : Component} → AreOctets s → reader s given t .answer ≡ accepted x →
+    (h : Laid c s) → length s ≤ length out → WrittenAgain h out (writer (handed x (reader s given t .table) s) out)
+unfolding written outputAfter
+reads-then-writes s given t out {x} {c} o e h room =
+    let (row, r, p) = told-of s o given t e h in
+    let q = ap (λ x. x .table) (reader-accepts s o given t r) in
+    let z : writer (handed x (reader s given t .table) s) out ≡ puts (composed c) out = rw (← p, q, composes-again r (standing-show (r .laid-out .laid)) t (length out) room) in
+    let (same, only) = same-or-shorter (shorter h) out z in
+    record { composes = z; same = same; only = only }
 
--- what is told of a code is what a writer is handed
-module _ (c : Component) (given : ℕ) where
-  told-operation : Rowed (c .kind) → itsOperation c given ≡ itsCode c given .first
-  unfolding operationOf toldCode codeOf
-  told-operation (inl e) = rw e refl
-  told-operation (inr e) = rw e refl
-
-  handed-row : {row : Row} → RowFor (c .kind) (itsOperation c given) row → RowFor (c .kind) (itsCode c given .first) row
-  handed-row (listed k m) = listed k (rw (told-operation k) at m)
-  handed-row (unasked n) = unasked n
-
-  handed-code : Composable c → writtenCode (c .kind) (itsCode c given) ≡ c .code
-  unfolding toldCode formatOf
-  handed-code h = go (eqb (c .kind) 0xEA) refl
-    where
-      go : (t : Bool) → eqb (c .kind) 0xEA ≡ t → writtenCode (c .kind) (codeOf (if t (given ∷ []) (c .code))) ≡ c .code
-      go true e = no-code c h (rw (eqb-true (c .kind) 0xEA e)) _
-      go false e = code-again c h
-
--- and what a writer was handed is told again
+-- what a writer was handed is told again
 module _ (kind : ℕ) (code : E.Code) where
   made-operation : operationOf kind (getD (writtenCode kind code) 0 0) (code .first) ≡ code .first
   unfolding operationOf writtenCode formatOf
@@ -216,42 +204,6 @@ module _ (kind : ℕ) (code : E.Code) where
   told-again : Typed kind → codeOf (toldCode kind (writtenCode kind code) (code .first)) ≡ heeded kind code
   unfolding codeOf toldCode writtenCode formatOf heeded
   told-again = of-typed (λ kind. codeOf (toldCode kind (writtenCode kind code) (code .first)) ≡ heeded kind code) refl refl refl refl kind
-
-module _ (s : Octets) (given : ℕ) (t : List ℕ) (out : Octets) {c : Component} {row : Row} (r : Right s given t c row) (room : length s ≤ length out) where
-  composes-again : written-as (handed (tells given c row) (tableWith (standing (r .laid-out .laid)) t) s) (length out) ≡ accepted (composed c)
-  unfolding writing
-  composes-again =
-      let l = r .laid-out in
-      let composable = laid-composable (l .laid) (l .within) in
-      let shows = standing-show (l .laid) in
-      rw (
-        ← as-many shows,
-        entries-again c composable (l .few) shows t,
-        its-row _ _ _ (handed-row c given (r .has-row)),
-        fits-written row 0 (c .parameters) .1 (r .fits),
-        octets-again c composable _ (handed-code c given composable) (length out) (omega (arith, shorter (l .laid) .never-longer)),
-      )
-
-  handed-back : {x : Told} {after : List ℕ} → tells given c row ≡ x → after ≡ tableWith (standing (r .laid-out .laid)) t →
-      writer (handed x after s) out ≡ puts (composed c) out
-  unfolding written outputAfter
-  handed-back p q = rw (← p, q, composes-again)
-
-written-again : {c : Component} {s : Octets} (h : Laid c s) (out : Octets) {after : Wrote} → after ≡ puts (composed c) out → WrittenAgain h out after
-written-again h out e =
-    record {
-      composes = e;
-      same = λ k. e ∙ ap (λ s. puts s out) (sym (shorter h .same k));
-      only = λ q. shorter h .as-long (omega (arith, inner (ap (λ w. w .answer) (sym e ∙ q))));
-    }
-
-reads-then-writes : (s : Octets) (given : ℕ) (t : List ℕ) (out : Octets) {x : Told} {c : Component} → AreOctets s → reader s given t .answer ≡ accepted x →
-    (h : Laid c s) → length s ≤ length out → WrittenAgain h out (writer (handed x (reader s given t .table) s) out)
-reads-then-writes s given t out o e h room =
-    let (d, row, r) = accepts-rightly s o given t e in
-    let p = reader-accepts s o given t r in
-    let back = handed-back s given t out r room (inner (sym (ap (λ x. x .answer) p) ∙ e)) (ap (λ x. x .table) p) in
-    written-again h out (back ∙ ap (λ c. puts (composed c) out) (functional (r .laid-out .laid) h))
 
 pub counted : (i n : ℕ) (t : List ℕ) (s : Octets) → length (parametersFrom i n t s) ≡ n
 unfolding parametersFrom heldFrom

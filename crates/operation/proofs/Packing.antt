@@ -13,6 +13,7 @@ use Rattle.element.specs.Answer.{Answer, accepted, refused}
 use Rattle.element.proofs.Reading.{small}
 use Rattle.component.specs.Grammar.{Parameter, Component}
 use Rattle.component.specs.Table.{idOf, codeOf}
+use Rattle.component.specs.Onward.{keeps, answerOn}
 use Rattle.component.proofs.Details.{listed, stands-in, id-octets, code-octets, two-octets, operation-in, needed-most}
 use Rattle.component.proofs.Typing.{two-at-most}
 use Rattle.operation.specs.Row.{Row, Line, Item, key, numberOf, asks}
@@ -31,14 +32,14 @@ use Rattle.operation.proofs.Model.{counted, demand1-ours, demand2-ours}
 use Rattle.operation.proofs.Counts as counts
 
 -- ---- what fits comes back
-low : (x r : ℕ) → x < 256 → (x + 256 * r) % 256 ≡ x
+pub low : (x r : ℕ) → x < 256 → (x + 256 * r) % 256 ≡ x
 low x r h = omega arith
 
-high : (x r : ℕ) → x < 256 → (x + 256 * r) / 256 ≡ r
+pub high : (x r : ℕ) → x < 256 → (x + 256 * r) / 256 ≡ r
 high x r h = omega arith
 
 -- the octets before a number of more
-each : (s : Octets) (more : ℕ) → AreOctets s → (i : ℕ) → i < length s → octetAt (octets (s ++ (more ∷ []))) i ≡ getD s i 0
+pub each : (s : Octets) (more : ℕ) → AreOctets s → (i : ℕ) → i < length s → octetAt (octets (s ++ (more ∷ []))) i ≡ getD s i 0
 unfolding octets octetAt
 each [] more h i k = absurd (omega arith)
 each (x ∷ s) more h zero k = low x _ (h 0)
@@ -112,9 +113,13 @@ no-line : {P : Line → Type 0} {xs : List Line} {l : Line} → First P xs l →
 no-line (First.here h) e = omega (arith, ap length e)
 no-line (First.later n f) e = omega (arith, ap length e)
 
+-- a refusal that fits behind other octets too: its detail is a place, an entry or a number
+abbrev pub Small : (number detail : ℕ) → Type 0
+Small n d = (0 < n) × (n < 256) × (d < 65536)
+
 -- a fault of a run against its row fits, where the marks do
 row-fits : {kind specifier : ℕ} {row : Row} {xs : List Item} {n d : ℕ} → RowFor kind specifier row →
-    ((x : Item) → List·Memᴰ x xs → x .mark < 4294967296) → RowFault row xs n d → RefusalFits n d
+    ((x : Item) → List·Memᴰ x xs → x .mark < 65536) → RowFault row xs n d → Small n d
 row-fits r marks (again before x behind e o n g t) = omega (arith, marks x (rw e (Memᴰ·append-right before (List·Memᴰ·head refl))))
 row-fits (in-the-book _ r) marks (missing {l} o f) = omega (arith, ltb-true (asks l) 65536 (of-all asks-few (first-in f) (of-all row-few r all-few)))
 row-fits (unasked _) marks (missing o f) = absurd (no-line f refl)
@@ -139,18 +144,27 @@ module _ (s : Octets) (o : AreOctets s) (given : ℕ) (h : given < 256) (t : Lis
       let (kind, _) = two-octets (r .laid-out .laid) in
       (small (toldOctets (tells given c row)) (omega (arith, kind, id 0, id 1, code 0, code 1)), two, few, all)
 
-  refusal-fits : {n d : ℕ} → ReaderRefuses s given t n d → RefusalFits n d
+  pub refusal-small : {n d : ℕ} → ReaderRefuses s given t n d → Small n d
   unfolding itemOf
-  refusal-fits (ReaderRefuses.table k) = omega arith
-  refusal-fits (ReaderRefuses.fault k f) = omega (arith, listed f)
-  refusal-fits (ReaderRefuses.no-row k l e) = omega (arith, operation-in (l .laid))
-  refusal-fits (ReaderRefuses.misfit k l e f) = row-fits e (λ x m. let (y, i, p) = Memᴰ·of-map itemOf _ m in omega (arith, stands-in (l .laid) i, ap (λ x. x .mark) p)) f
+  refusal-small (ReaderRefuses.table k) = omega arith
+  refusal-small (ReaderRefuses.fault k f) = omega (arith, listed f)
+  refusal-small (ReaderRefuses.no-row k l e) = omega (arith, operation-in (l .laid))
+  refusal-small (ReaderRefuses.misfit k l e f) = row-fits e (λ x m. let (y, i, p) = Memᴰ·of-map itemOf _ m in omega (arith, stands-in (l .laid) i, ap (λ x. x .mark) p)) f
 
-  reader-fits : (a : Answer Told) → reader s given t .answer ≡ a → ReadingFits a
-  reader-fits (accepted x) e =
+  -- also behind so many other octets
+  pub fits-behind : (n : ℕ) → n ≤ 4096 → (a : Answer Told) → reader s given t .answer ≡ a → ReadingFits (answerOn n (λ x. x) a)
+  fits-behind n k (accepted x) e =
       let (c, row, r) = demand2-ours .reader s given t o e in
       subst ReadingFits (sym (ap (λ x. x .answer) (reader-accepts s o given t r)) ∙ e) (told-fits r)
-  reader-fits (refused n d) e = refusal-fits (demand1-ours .reader s given t o e .0)
+  fits-behind n k (refused m d) e = go (keeps m d) (refusal-small (demand1-ours .reader s given t o e .0))
+    where
+      go : (b : Bool) → Small m d → RefusalFits m (if b d (n + d))
+      go true h = omega arith
+      go false h = omega arith
+
+  reader-fits : (a : Answer Told) → reader s given t .answer ≡ a → ReadingFits a
+  reader-fits (accepted x) e = fits-behind 0 (omega arith) (accepted x) e
+  reader-fits (refused n d) e = omega (arith, refusal-small (demand1-ours .reader s given t o e .0))
 
 -- the writer's marks count its entries
 marked : (i : ℕ) (ps : List Parameter) {x : Item} → List·Memᴰ x (itemsOf i ps) → x .mark < i + length ps
@@ -167,7 +181,7 @@ module _ (o : Order) (numbers : AreNumbers (o .table)) (out : Octets) where
   order-fits (WriterRefuses.no-entry h k s b) = omega arith
   order-fits (WriterRefuses.too-long h s k) = omega (arith, needed-most (o .table) (o .source) numbers (o .kind) (o .id .count) (o .count) (two-at-most (h .allowed)) (h .few))
   order-fits (WriterRefuses.no-row r e) = omega arith
-  order-fits (WriterRefuses.misfit r e f) = row-fits e (λ x m. omega (arith, marked 0 (ordered o) m, counted 0 (o .count) (o .table) (o .source))) f
+  order-fits (WriterRefuses.misfit r e f) = omega (arith, row-fits e (λ x m. omega (arith, r .held .few, marked 0 (ordered o) m, counted 0 (o .count) (o .table) (o .source))) f)
   order-fits (WriterRefuses.no-room r e f k) = omega arith
 
   writer-fits : (a : Answer ℕ) → writer o out .answer ≡ a → WritingFits a

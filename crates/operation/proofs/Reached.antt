@@ -27,7 +27,7 @@ use Rattle.operation.proofs.RowFaults.{row-faulty}
 use Rattle.operation.proofs.Readings.{either-row, shown-by, not-shown}
 use Rattle.operation.proofs.Places.{all-counted, placed-items}
 
-copies : (es : List Entry) (z t : List ℕ) → copied (tableWith es z) t (width * length es) ≡ tableWith es t
+pub copies : (es : List Entry) (z t : List ℕ) → copied (tableWith es z) t (width * length es) ≡ tableWith es t
 unfolding tableWith
 copies es z t = simp (← numbers-length es, take-append-seam)
 

@@ -11,15 +11,19 @@ use Rattle.operation.specs.Reading.{Shown}
 use Rattle.operation.specs.Caller.{Told}
 
 -- what is told of what is shown: the entries stand in the table
+abbrev pub toldOf : Shown → Told
+toldOf x =
+    record {
+      kind = x .kind;
+      id = idOf (x .id);
+      code = codeOf (x .code);
+      all = length (x .entries);
+      named = x .named;
+      other = x .other;
+    }
+
 unfoldable pub told : Answer Shown → Answer Told
-told a = a >>= λ x. accepted (record {
-  kind = x .kind;
-  id = idOf (x .id);
-  code = codeOf (x .code);
-  all = length (x .entries);
-  named = x .named;
-  other = x .other;
-})
+told a = a >>= λ x. accepted (toldOf x)
 
 abbrev pub answerIn : R.Reading → Answer Told
 answerIn (RV.Accepted kind id code all named other) =

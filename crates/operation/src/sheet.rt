@@ -8,7 +8,7 @@ ghost use lib.ListN.{length};
 ghost use lib.Seq.{sets};
 ghost use Rattle.component.specs.Table.{width, tableSize, numbersOf};
 ghost use Rattle.component.specs.Layout.{parameters};
-ghost use Rattle.operation.specs.inner.Sheet.{Walked, copied};
+ghost use Rattle.operation.specs.inner.Sheet.{Walked, copied, shownFrom};
 
 // The numbers of an entry.
 fn show(
@@ -79,4 +79,20 @@ pub(crate) fn copy_numbers(from: &[u16], to: &mut [u16], count: usize)
         to[i] = from[i];
         i = i + 1;
     }
+}
+
+// The numbers of the first `count` entries of a sheet in front of a table; where one of the two is too short, nothing.
+pub fn show_entries(sheet: &[u16], count: usize, table: &mut [u16])
+    ensures { λ _. ⌜ now (table .exit) ≡ shownFrom (now (sheet .entry)) count (now (table .entry)) ⌝ }
+{
+    if 64 < count {
+        return;
+    }
+    if sheet.len() < WIDTH * count {
+        return;
+    }
+    if table.len() < WIDTH * count {
+        return;
+    }
+    copy_numbers(sheet, table, WIDTH * count);
 }

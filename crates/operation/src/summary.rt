@@ -9,7 +9,7 @@ ghost use Prim.Native.Nat.{_+_, _*_, _≤_};
 ghost use lib.ListN.{length};
 ghost use Rattle.operation.specs.Reading.{readingAt, tableAfter};
 ghost use Rattle.operation.specs.Told.{told};
-ghost use Rattle.operation.specs.Packed.{octets, numberWith, countsOf, packedReading};
+ghost use Rattle.operation.specs.Packed.{octets, numberWith, countsOf, packedReading, toldIn};
 
 // An answer's number in octet 0, and what goes with it in octets 1 to 4.
 pub fn packed(number: u8, detail: u32) -> u64
@@ -49,5 +49,39 @@ pub fn summary_from(octets: &[u8], from: usize, specifier: u8, table: &mut [u16]
             other: _,
         } => shown(kind, id, code, all, named),
         Reading::Refused { number, detail } => packed(number, detail),
+    }
+}
+
+// What a summary says of an accepted component, and what a package writer looks at of it.
+pub struct Outline {
+    pub kind: u8,
+    pub id: Id,
+    pub code: Code,
+    pub all: usize,
+}
+
+// A summary taken apart.
+pub fn outline_of(summary: u64) -> Outline
+    ensures { λ r. ⌜ (r .kind ≡ toldIn summary .kind) × (r .id ≡ toldIn summary .id) × (r .code ≡ toldIn summary .code)
+        × (r .all ≡ toldIn summary .all) ⌝ }
+{
+    let kind = summary / 256;
+    let first = kind / 256;
+    let second = first / 256;
+    let code = second / 256;
+    let problem = code / 256;
+    let counts = summary / 281474976710656;
+    Outline {
+        kind: (kind % 256) as u8,
+        id: Id {
+            count: (counts / 16384) as u8,
+            first: (first % 256) as u8,
+            second: (second % 256) as u8,
+        },
+        code: Code {
+            first: (code % 256) as u8,
+            second: (problem % 256) as u8,
+        },
+        all: (counts / 128 % 128) as usize,
     }
 }

@@ -90,7 +90,7 @@ impl Element {
         element.map(|element| Element::new(vec![element.identifier], element.contents(code)))
     }
 
-    fn put(&self, octets: &mut Vec<u8>) {
+    pub fn put(&self, octets: &mut Vec<u8>) {
         octets.extend(&self.identifier);
         octets.extend(self.length.octets(self.contents.len()));
         octets.extend(&self.contents);
@@ -109,7 +109,7 @@ impl Form {
 }
 
 impl Length {
-    fn octets(&self, length: usize) -> Vec<u8> {
+    pub fn octets(&self, length: usize) -> Vec<u8> {
         match self {
             Length::True(form) => form.octets(length),
             Length::Off(form, off) => form.octets(length.saturating_add_signed(*off as isize)),

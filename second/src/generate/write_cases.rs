@@ -18,7 +18,7 @@ pub struct WriteCase {
     pub output: usize,
 }
 
-type Entry = [u16; ENTRY_NUMBERS];
+pub(super) type Entry = [u16; ENTRY_NUMBERS];
 
 /// The place is put in when the table is made, after all damages.
 fn entry(number: u16, constructor: bool, start: u16, length: u16) -> Entry {
@@ -26,11 +26,12 @@ fn entry(number: u16, constructor: bool, start: u16, length: u16) -> Entry {
 }
 
 /// A case while it is drawn.
-struct Draft {
+#[derive(Clone)]
+pub(super) struct Draft {
     row: &'static Row,
-    head: Head,
-    list: Vec<Entry>,
-    source: Vec<u8>,
+    pub head: Head,
+    pub list: Vec<Entry>,
+    pub source: Vec<u8>,
     /// An entry count other than the list's.
     claimed: Option<usize>,
     /// Numbers kept of each entry.
@@ -86,7 +87,8 @@ pub fn write_case(random: &mut Random) -> WriteCase {
     if random.percent(10) {
         return as_read(random);
     }
-    let mut draft = Draft::valid(random);
+    let subject = draw_subject(random);
+    let mut draft = Draft::valid(random, subject);
     match random.below(2000) {
         0..=699 => {}
         700..=1799 => damage(random, &mut draft),
@@ -131,7 +133,7 @@ fn again(random: &mut Random, accepted: &Accepted, table: Vec<u16>, source: Vec<
 }
 
 /// Mostly one, sometimes more, for the order among the numbers.
-fn damage(random: &mut Random, draft: &mut Draft) {
+pub(super) fn damage(random: &mut Random, draft: &mut Draft) {
     random.pick(&DAMAGES)(random, draft);
     while random.percent(30) {
         random.pick(&DAMAGES)(random, draft);
@@ -139,8 +141,7 @@ fn damage(random: &mut Random, draft: &mut Draft) {
 }
 
 impl Draft {
-    fn valid(random: &mut Random) -> Draft {
-        let subject = draw_subject(random);
+    pub fn valid(random: &mut Random, subject: Subject) -> Draft {
         let lead = random.below(6);
         let mut draft = Draft {
             row: subject.row,
@@ -176,7 +177,7 @@ impl Draft {
         (count > 0).then(|| &mut self.list[random.below(count)])
     }
 
-    fn entries(&self) -> usize {
+    pub fn entries(&self) -> usize {
         self.claimed.unwrap_or(self.list.len())
     }
 
@@ -244,7 +245,7 @@ fn draw_head(random: &mut Random, subject: Subject) -> Head {
 
 /// Places of all kinds, as the writer ignores them: in some tables one kind
 /// for all entries, in most each entry its own.
-fn with_places(random: &mut Random, list: &[Entry]) -> Vec<Entry> {
+pub(super) fn with_places(random: &mut Random, list: &[Entry]) -> Vec<Entry> {
     let same = random.percent(40).then(|| random.pick(&PLACES));
     let mut list = list.to_vec();
     for entry in &mut list {
@@ -274,7 +275,7 @@ fn right_place(entry: &Entry) -> u16 {
 }
 
 /// Just long enough, longer, one octet short, or far too short.
-fn output_length(random: &mut Random, needed: usize) -> usize {
+pub(super) fn output_length(random: &mut Random, needed: usize) -> usize {
     match random.below(100) {
         0..=59 => needed,
         60..=84 => needed + random.between(1, 20),
@@ -484,7 +485,7 @@ fn overlapping(random: &mut Random, draft: &mut Draft) {
 }
 
 /// 63 to 66 entries.
-fn crowd(random: &mut Random, draft: &mut Draft) {
+pub(super) fn crowd(random: &mut Random, draft: &mut Draft) {
     let count = random.pick(&[63, 64, 64, 65, 66]);
     while draft.list.len() < count {
         let mut drawn = draw_other(random, draft.row);
@@ -497,14 +498,14 @@ fn crowd(random: &mut Random, draft: &mut Draft) {
 }
 
 /// A source of at least so many octets.
-fn lengthen(random: &mut Random, draft: &mut Draft, count: usize) {
+pub(super) fn lengthen(random: &mut Random, draft: &mut Draft, count: usize) {
     let more = count.saturating_sub(draft.source.len());
     let octets = random.octets(more);
     draft.source.extend(octets);
 }
 
 /// A last entry that the row does not name.
-fn add_filler(random: &mut Random, draft: &mut Draft) {
+pub(super) fn add_filler(random: &mut Random, draft: &mut Draft) {
     draft.list.push(entry(FILLER, random.percent(50), 0, 0));
 }
 
@@ -562,7 +563,7 @@ fn random_target(random: &mut Random) -> usize {
 }
 
 /// Entries over a source of a few hundred octets, of any sum over 4,096.
-fn many_long(random: &mut Random, draft: &mut Draft) {
+pub(super) fn many_long(random: &mut Random, draft: &mut Draft) {
     let length = random.between(100, 700);
     lengthen(random, draft, length);
     while draft.list.len() < 64 && random.percent(96) {

@@ -1,32 +1,20 @@
 -- `lines::write_row` meets its contract.
 -- Assumes nothing.
-use mathlib.Core.Path.{_∙_}
-use mathlib.Core.List.{append-assoc}
 use borrow.Author.Needs.{needs}
-use Rattle.lines.specs.Line.{row}
 use Rattle.lines.proofs.Putting.{named}
-use Rattle.lines.proofs.Fronts.{then, alone}
+use Rattle.lines.proofs.Fronts.{alone}
 use Rattle.lines.proofs.write_row.Statement.{statement}
 use Rattle.lines.proofs.write_row.Tie as tie
 
 returns : tie.Need-returns
-unfolding row
 returns c =
-    let first = c .before .before .before .before .before .before .before in
-    let second = first .before .before .before in
-    let third = second .before .before .before in
-    let fourth = third .before .before .before in
-    let fifth = fourth .before .before .before in
-    let line =
-    then (then (then (then (fifth .number-before .ensures .0) (fourth .number-before2 .ensures .0)) (third .number-before3 .ensures .0))
-    (second .number-before4 .ensures .0)) (first .number-before5 .ensures .0) in
-    named _ _ (alone line ∙ simp append-assoc) (c .before .before .put .ensures)
+    let put = c .before .before in
+    named _ _ (alone (put .before .before .before .before .before .row-before .ensures .0)) (put .put .ensures)
 
 pub write-row-spec : {M : Type 1} → statement M
 write-row-spec =
     tie.close
     (tie.spec
-    (λ c. search needs) (λ c κs. search needs) (λ c. search needs) (λ c κs. search needs) (λ c. search needs)
-    (λ c κs. search needs) (λ c. search needs) (λ c κs. search needs) (λ c. search needs) (λ c κs. search needs)
-    (λ c. search needs) (λ c. search needs) (λ c. search needs) (λ c κs. search needs) (λ c. search needs)
+    (λ c. search needs) (λ c κs. search needs) (λ c. search needs) (λ c. search needs) (λ c. search needs)
+    (λ c κs. search needs) (λ c. search needs)
     returns)

@@ -1,0 +1,30 @@
+-- What the package reader hands back by value, as what it tells.
+use Prim.Native.Nat.{ℕ, zero, suc}
+use mathlib.Core.List.{List, [], _∷_}
+use lib.ListN.{getD, drop}
+use Rattle.element.specs.Answer.{Answer, accepted, refused, _>>=_}
+use Rattle.operation.specs.Packed.{toldIn}
+use Rattle.package.specs.declared.Packages as S
+use Rattle.package.specs.Caller.{Inside, Parcel}
+use Rattle.package.specs.Told.{Envelope, answerIn}
+
+-- how many components there are
+abbrev pub countIn : Answer Envelope → ℕ
+countIn (accepted x) = x .count
+countIn (refused n d) = 0
+
+abbrev pub insideIn : (place summary : ℕ) → Inside
+insideIn place summary = record { place = place; told = toldIn summary }
+
+-- the first `count` components, of which each has its place and its summary
+unfoldable pub insides : (count : ℕ) (places summaries : List ℕ) → List Inside
+insides zero ps ss = []
+insides (suc n) ps ss = insideIn (getD ps 0 0) (getD ss 0 0) ∷ insides n (drop 1 ps) (drop 1 ss)
+
+unfoldable pub parcelIn : S.Packages → Answer Parcel
+parcelIn x = answerIn (x .answer) >>= λ e. accepted (record {
+  kind = e .kind;
+  ids = e .ids;
+  size = e .size;
+  components = insides (e .count) (x .places) (x .components);
+})

@@ -1,0 +1,84 @@
+-- What order 5 shuts out: any package reader that satisfies the demands reads the charts as ours does, so each program that
+-- reads one of these otherwise satisfies them not.
+use Prim.Native.Nat.{ℕ, zero, suc}
+use mathlib.Core.Path.{_≡_, refl, ap, _∙_}
+use mathlib.Core.Bool.{Bool, true, _&&_}
+use mathlib.Core.List.{List, [], _∷_}
+use lib.Dec.{ltb}
+use borrow.Author.Tests.{ltb-true}
+use native.Mathlib.Omega.{arith}
+use Rattle.element.specs.Octets.{Octets, AreOctets}
+use Rattle.element.specs.Answer.{refused}
+use Rattle.operation.proofs.Lines.{each}
+use Rattle.package.specs.Caller.{Read, read, Reader, Writer}
+use Rattle.package.specs.Demands.{Demands}
+use Rattle.package.specs.Model.{OnlyOne}
+use Rattle.package.specs.Charts.{Chart, zeros, reads, worked}
+use Rattle.package.proofs.OnlyOne.{only-one}
+use Rattle.package.proofs.Charts.{charts}
+
+-- octets, by one test over them
+abbrev below : Octets → Bool
+below [] = true
+below (x ∷ s) = ltb x 256 && below s
+
+are-octets : (s : Octets) → below s ≡ true → AreOctets s
+are-octets [] e i = omega arith
+are-octets (x ∷ s) e zero = ltb-true x 256 (each (ltb x 256) (below s) e .0)
+are-octets (x ∷ s) e (suc i) = are-octets s (each (ltb x 256) (below s) e .1) i
+
+abbrev nth : {A : Type 0} → A → ℕ → List A → A
+nth none i [] = none
+nth none zero (x ∷ xs) = x
+nth none (suc i) (x ∷ xs) = nth none i xs
+
+abbrev nothing : Read
+nothing = read (refused 0 0) []
+
+abbrev chart : ℕ → Chart
+chart i = nth (record { octets = []; specifiers = 0; read = nothing }) i worked
+
+module _ (r : Reader) (w : Writer) (d : Demands r w) where
+  -- chart `i` is read as it says
+  abbrev pub Reads : ℕ → Type 0
+  Reads i = r (chart i .octets) (chart i .specifiers) zeros ≡ chart i .read
+
+  as-charted : (c : Chart) → AreOctets (c .octets) → reads c ≡ c .read → r (c .octets) (c .specifiers) zeros ≡ c .read
+  unfolding OnlyOne
+  as-charted c o e = only-one r w d .0 (c .octets) (c .specifiers) zeros o ∙ e
+
+  -- a dialogue portion is not skipped
+  pub dialogue-refused : Reads 6
+  dialogue-refused = as-charted (chart 6) (are-octets (chart 6 .octets) refl) (ap (nth nothing 6) charts)
+
+  -- the second component's numbers do not stand at 256
+  pub second-at-320 : Reads 7
+  second-at-320 = as-charted (chart 7) (are-octets (chart 7 .octets) refl) (ap (nth nothing 7) charts)
+
+  -- the second component goes by the second specifier
+  pub each-by-its-own : Reads 9
+  each-by-its-own = as-charted (chart 9) (are-octets (chart 9 .octets) refl) (ap (nth nothing 9) charts)
+
+  -- 24 does not come before the second component's own refusal
+  pub carriage-behind-the-components : Reads 10
+  carriage-behind-the-components = as-charted (chart 10) (are-octets (chart 10 .octets) refl) (ap (nth nothing 10) charts)
+
+  -- a place does not count from the component's start
+  pub places-of-the-package : Reads 11
+  places-of-the-package = as-charted (chart 11) (are-octets (chart 11 .octets) refl) (ap (nth nothing 11) charts)
+
+  -- nine components are not taken
+  pub nine-refused : Reads 13
+  nine-refused = as-charted (chart 13) (are-octets (chart 13 .octets) refl) (ap (nth nothing 13) charts)
+
+  -- 23 does not come before 22: the walk goes past the eighth
+  pub layout-before-the-count : Reads 14
+  layout-before-the-count = as-charted (chart 14) (are-octets (chart 14 .octets) refl) (ap (nth nothing 14) charts)
+
+  -- a transaction ID of four octets is not enough in a CONVERSATION
+  pub eight-in-a-conversation : Reads 15
+  eight-in-a-conversation = as-charted (chart 15) (are-octets (chart 15 .octets) refl) (ap (nth nothing 15) charts)
+
+  -- a length is held against its parent's end, and not against the package's
+  pub parent-ends-the-set : Reads 16
+  parent-ends-the-set = as-charted (chart 16) (are-octets (chart 16 .octets) refl) (ap (nth nothing 16) charts)

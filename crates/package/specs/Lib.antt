@@ -1,0 +1,14 @@
+pub mod Types
+pub mod Carriage
+pub mod Grammar
+pub mod Faults
+pub mod Caller
+pub mod Layout
+pub mod Reading
+pub mod Writing
+pub mod Told
+pub mod Model
+pub mod Demands
+pub mod Packed
+pub mod Charts
+pub mod inner
