@@ -1,7 +1,7 @@
 -- Of a field the first 4,097 octets say all, where what is listed has items over 4,096 octets that are all alike, as
 -- components and packages are, which are refused with 2; and a longer specifier field changes nothing.
 use Prim.Native.Nat.{ℕ, _<_, _≤_}
-use mathlib.Core.Path.{_≡_, refl, sym, _∙_}
+use mathlib.Core.Path.{_≡_, refl, sym}
 use mathlib.Core.Bool.{Bool, true, false, and-false}
 use mathlib.Core.List.{List}
 use lib.ListN.{length, take}

@@ -13,7 +13,7 @@ use Rattle.package.specs.Caller.{Inside}
 use Rattle.package.specs.Told.{Envelope, answerIn}
 use Rattle.lines.specs.Line.{longest, Front}
 use Rattle.lines.specs.Packages.{insideLine, insideLines, packageLines, packages}
-use Rattle.lines.specs.inner.Parcels.{countIn, insideIn, insides, parcelIn}
+use Rattle.lines.specs.inner.Parcels.{countIn, insideIn, insides, parcelOf, parcelIn}
 use Rattle.lines.proofs.Stepping.{row-short, line-short}
 use Rattle.lines.proofs.Fronts as fronts
 
@@ -53,8 +53,8 @@ pub lines-short : (item : ℕ) (r : S.Packages) → countIn (answerIn (r .answer
 unfolding parcelIn packageLines
 lines-short item r h = go (answerIn (r .answer)) h
   where
-    go : (a : Answer Envelope) → countIn a ≤ 8 → length (packageLines item (a >>= λ e. accepted (record { kind = e .kind; ids = e .ids; size = e .size; components = insides (e .count) (r .places) (r .components) }))) ≤ packages .longest
-    go (accepted e) k =
-        let cs = insides (e .count) (r .places) (r .components) in
-        simp length-append (omega (arith, row-short item 0 0 (e .kind) (length cs), few-short cs, counted (e .count) (r .places) (r .components)))
+    go : (a : Answer Envelope) → countIn a ≤ 8 → length (packageLines item (a >>= λ x. accepted (parcelOf x (r .places) (r .components)))) ≤ packages .longest
+    go (accepted x) k =
+        let cs = insides (x .count) (r .places) (r .components) in
+        simp length-append (omega (arith, row-short item 0 0 (x .kind) (length cs), few-short cs, counted (x .count) (r .places) (r .components)))
     go (refused n d) k = omega (arith, row-short item n d 0 0)

@@ -29,15 +29,15 @@ unfoldable pub octetsOf : Tagged → Octets
 octetsOf f = f .tag ∷ (length (f .contents) / 256) ∷ (length (f .contents) % 256) ∷ f .contents
 
 -- ---- what is listed
--- fields of one tag, the items. A text begins with `header`, and has for each item `lines`, of at most `longest` octets:
--- by its number, the kept specifier, how many numbers the lent table has, and its octets. Reading it leaves `left` there
+-- a subject of listings, whose items are the fields of one tag: their lines go by their number, the kept specifier, the
+-- count of numbers in the lent table, and their octets
 pub record Subject : Type 0 where
   pub tag : ℕ
   pub header : Octets
-  pub room : ℕ
-  pub longest : ℕ
+  pub room : ℕ  -- the numbers of the table that its program lends
+  pub longest : ℕ  -- an item has no more octets of lines
   pub lines : (item specifier room : ℕ) (contents : Octets) → Octets
-  pub left : (specifier : ℕ) (contents : Octets) (table : List ℕ) → List ℕ
+  pub left : (specifier : ℕ) (contents : Octets) (table : List ℕ) → List ℕ  -- the table, once an item is read
 
 -- `item answer detail named other`
 abbrev pub headerLine : Octets
@@ -63,8 +63,8 @@ components =
 abbrev pub start : K.Kept
 start = record { specifier = 0; item = 0 }
 
--- the tag that is listed is one item more, counted in 64 bits; tag 2 with one octet sets the specifier; all else changes
--- nothing
+-- the tag that is listed is one item more, counted in 64 bits; tag 2 with one octet sets the specifier; all else
+-- changes nothing
 unfoldable pub after : (tag : ℕ) → K.Kept → Tagged → K.Kept
 after tag kept f =
     if (eqb (f .tag) tag) (record { specifier = kept .specifier; item = (kept .item + 1) % 2 ^ 64 })

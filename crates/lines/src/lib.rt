@@ -76,8 +76,8 @@ impl Kept {
         }
     }
 
-    // An item, which is a field with the tag that is listed, is counted, a specifier is kept for the items behind it, and
-    // all else is skipped.
+    // A field with the tag that is listed is counted, a specifier is kept for the items behind it, and all else is
+    // skipped.
     pub fn after(mut self, listed: u8, tag: u8, contents: &[u8]) -> Self
         ensures { λ r. ⌜ r ≡ after listed self (tagged tag (now (contents .entry))) ⌝ }
     {

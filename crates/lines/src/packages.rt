@@ -22,6 +22,7 @@ ghost use Rattle.lines.specs.inner.Parcels.{countIn, insideIn, insides, 
 // The line of a package, and of each of eight components a blank and a line.
 pub const LONGEST_PACKAGE: usize = LONGEST + 8 * (1 + LONGEST);
 
+// The same specifier for each of eight components.
 fn eight_of(specifier: u8) -> u64
     ensures { λ r. ⌜ r ≡ eightOf specifier ⌝ }
 {

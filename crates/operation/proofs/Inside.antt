@@ -15,9 +15,9 @@ use Rattle.operation.specs.Reading.{Shown, reading, readingFrom, reading
 use Rattle.operation.specs.Inside.{shownOn, Shifts}
 use Rattle.operation.specs.Told.{told}
 use Rattle.operation.specs.Model.{reader}
-use Rattle.operation.specs.Packed.{packedReading, unpackedReading, ReadingFits}
+use Rattle.operation.specs.Packed.{ReadingFits}
 use Rattle.operation.proofs.Shift.{shift}
-use Rattle.operation.proofs.Packing.{reading-apart, fits-behind}
+use Rattle.operation.proofs.Packing.{fits-behind}
 
 -- where 1 and 2 do not arise
 pub asked-first : (s : Octets) (from given room : ℕ) → tableSize ≤ room → from < length s → length s ≤ 4096 →
@@ -49,7 +49,3 @@ module _ (s : Octets) (o : AreOctets s) (from given : ℕ) (h : given < 256) (k 
       let cut = take-append-drop from s in
       let left = length-drop from s in
       rw (cut, size) at (fits-inside (take from s) (drop from s) given (replicate tableSize 0) (omega (arith, length-replicate {A = ℕ} tableSize 0)) (omega arith) (omega arith) (λ i. rw (getD-drop from s i 0) (o (from + i))) h (omega arith))
-
-  -- its summary can be taken apart
-  pub apart-from : (room : ℕ) → tableSize ≤ room → unpackedReading (packedReading (told (readingAt s from given room))) ≡ told (readingFrom s from given)
-  apart-from room enough = rw (asked-first s from given room enough k short) (reading-apart _ fits-from)

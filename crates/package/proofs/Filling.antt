@@ -2,9 +2,10 @@
 use Prim.Native.Nat.{ℕ, _*_, _-_, _≤_}
 use mathlib.Core.Path.{_≡_, refl, sym, ap, ap₂, _∙_}
 use mathlib.Core.List.{List, [], _∷_, _++_, map, append-nil}
+use borrow.Rule.Slice.PartAt.{part-to-end}
 use borrow.Rule.Slice.PartMut.{putMid}
 use lib.ListN.{length, take, drop, set, length-append, length-drop, drop-of-length-le, take-append-drop}
-use lib.Seq.{take-all, drop-at, length-take-le}
+use lib.Seq.{drop-at, length-take-le}
 use borrow.Author.Tests.{le-leb}
 use native.Mathlib.Omega.{arith}
 use Rattle.element.specs.Answer.{Answer, accepted}
@@ -37,9 +38,6 @@ filled y ys sheet zeros t few enough e size =
 
 -- ---- a part behind the first `a`, lent and given back
 module _ {A : Type 0} (a : ℕ) (l : List A) (h : a ≤ length l) where
-  pub part-behind : take (length l - a) (drop a l) ≡ drop a l
-  part-behind = take-all (length l - a) (drop a l) (omega (arith, length-drop a l))
-
   pub given-back : (ys : List A) → putMid a (length l - a) l ys ≡ take a l ++ ys
   given-back ys = ap (λ r. take a l ++ r) (ap (λ r. ys ++ r) (drop-of-length-le (drop a l) {i = length l - a} (omega (arith, length-drop a l))) ∙ append-nil ys)
 
@@ -58,7 +56,7 @@ module _ {l : Answer (List Placed)} {ys : List Placed} (e : l ≡ accepted ys) (
       tableSize ≤ length t → sheet ≡ tableWith (y .shown .entries) zeros → length sheet ≡ tableSize → after ≡ tablesWith (y ∷ ys) t
   unfolding tablesRest
   table-shown zeros t {sheet} p q n few enough s size =
-      q ∙ ap₂ (λ n l. shownFrom sheet n l) n (given-back tableSize t enough _ ∙ ap (λ r. take tableSize t ++ r) (p ∙ rw (e, part-behind tableSize t enough)))
+      q ∙ ap₂ (λ n l. shownFrom sheet n l) n (given-back tableSize t enough _ ∙ ap (λ r. take tableSize t ++ r) (p ∙ rw (e, part-to-end t tableSize)))
       ∙ filled y ys sheet zeros t few enough s size
 
   -- one for each component, of its place or of what is told of it
@@ -66,7 +64,7 @@ module _ {l : Answer (List Placed)} {ys : List Placed} (e : l ≡ accepted ys) (
       after ≡ f (inside y) ∷ drop 1 (putMid 1 (length p - 1) p part) → after ≡ map f (map inside (y ∷ ys)) ++ drop (length (map inside (y ∷ ys))) p
   shown-first f p h q r =
       let one : length (take 1 p) ≡ 1 = length-take-le 1 p h in
-      r ∙ ap (λ l. f (inside y) ∷ l) (ap (drop 1) (given-back 1 p h _) ∙ drop-at (take 1 p) _ 1 one ∙ q ∙ rw (part-behind 1 p h))
+      r ∙ ap (λ l. f (inside y) ∷ l) (ap (drop 1) (given-back 1 p h _) ∙ drop-at (take 1 p) _ 1 one ∙ q ∙ rw (part-to-end p 1))
       ∙ in-front-of f (inside y) (map inside ys) p
 
   pub place-shown : (p : List ℕ) {part after : List ℕ} → 1 ≤ length p → part ≡ placesRest (take (length p - 1) (drop 1 p)) l →
@@ -81,4 +79,4 @@ module _ {l : Answer (List Placed)} {ys : List Placed} (e : l ≡ accepted ys) (
 
 -- and where one of them is refused
 pub unchanged : {A : Type 0} (a : ℕ) (l : List A) → a ≤ length l → {part : List A} → part ≡ take (length l - a) (drop a l) → putMid a (length l - a) l part ≡ l
-unchanged a l h e = given-back a l h _ ∙ ap (λ r. take a l ++ r) (e ∙ part-behind a l h) ∙ take-append-drop a l
+unchanged a l h e = given-back a l h _ ∙ ap (λ r. take a l ++ r) (e ∙ part-to-end l a) ∙ take-append-drop a l

@@ -21,10 +21,9 @@ unfoldable pub insides : (count : ℕ) (places summaries : List ℕ) → List In
 insides zero ps ss = []
 insides (suc n) ps ss = insideIn (getD ps 0 0) (getD ss 0 0) ∷ insides n (drop 1 ps) (drop 1 ss)
 
+abbrev pub parcelOf : Envelope → (places summaries : List ℕ) → Parcel
+parcelOf x ps ss =
+    record { kind = x .kind; ids = x .ids; size = x .size; components = insides (x .count) ps ss }
+
 unfoldable pub parcelIn : S.Packages → Answer Parcel
-parcelIn x = answerIn (x .answer) >>= λ e. accepted (record {
-  kind = e .kind;
-  ids = e .ids;
-  size = e .size;
-  components = insides (e .count) (x .places) (x .components);
-})
+parcelIn r = answerIn (r .answer) >>= λ x. accepted (parcelOf x (r .places) (r .components))

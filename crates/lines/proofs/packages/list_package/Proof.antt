@@ -4,7 +4,6 @@ use mathlib.Core.Path.{sym, _∙_}
 use native.Mathlib.Omega.{arith}
 use Rattle.lines.specs.Packages.{packages}
 use Rattle.lines.proofs.Stepping.{cramped, skipped, item, never}
-use Rattle.lines.proofs.Parcels.{lines-short}
 use Rattle.lines.proofs.Handed.{Handed, handed}
 use borrow.Author.Needs.{needs}
 use Rattle.lines.proofs.packages.list_package.Statement.{statement}
@@ -35,8 +34,7 @@ returns-4 c =
     let there = written .before .before .before .before in
     let chosen = there .before .before .before in
     item packages _ _ _ _ _ (omega arith) (chosen .if3 .left) (chosen .before .after .ensures) (read there .lines _)
-    (lines-short _ (there .read .result) (read there .few)) (sym (c .before .next .given .1) ∙ written .write-package .ensures .0)
-    (read there .left) (written .write-package .ensures .1)
+    (read there .short _) (sym (c .before .next .given .1) ∙ written .write-package .ensures .0) (read there .left) (written .write-package .ensures .1)
 
 returns-5 : tie.Need-returns-5
 returns-5 c =
@@ -44,7 +42,7 @@ returns-5 c =
     let there = written .before .before .before .before in
     let chosen = there .before .before .before in
     never packages _ _ _ _ _ (omega arith) (chosen .if3 .left) (chosen .before .after .ensures) (read there .lines _)
-    (lines-short _ (there .read .result) (read there .few)) (sym (c .enum-told .given .1) ∙ written .write-package .ensures .0)
+    (read there .short _) (sym (c .enum-told .given .1) ∙ written .write-package .ensures .0)
 
 pub list-package-spec : {M : Type 1} → statement M
 list-package-spec =

@@ -13,9 +13,10 @@ use Rattle.operation.specs.Told.{told}
 use Rattle.operation.specs.Packed.{packedReading}
 use Rattle.package.specs.inner.Leftover.{restIn, leftover, done, tablesRest, placesRest, summariesRest}
 use Rattle.package.proofs.Left.{Led, leads-on, stops, refusing, Continued, continues, none-left, all-done, not-done}
-use Rattle.package.proofs.Filling.{part-behind, table-shown, place-shown, summary-shown, unchanged}
+use Rattle.package.proofs.Filling.{table-shown, place-shown, summary-shown, unchanged}
 use native.Mathlib.Omega.{arith}
 use borrow.Author.Needs.{needs}
+use borrow.Rule.Slice.PartAt.{part-to-end}
 use borrow.Rule.Slice.PartMut.{same-len-mid}
 use borrow.Fn.Kinds.{In}
 use borrow.Fn.PlainCycle.{Measures, is, falls, and}
@@ -160,9 +161,9 @@ module _ (t : ℕ) where
     (
       rw (ended (c .before .before .before .before .before .before .before .before .before)) (led first .rest),
       a .pre .1 .1,
-      rw (part-behind 320 (a .args .table .now) (omega (arith, a .pre .1 .2, first .if1 .left))) (omega (arith, length-drop 320 (a .args .table .now), a .pre .1 .2, first .if1 .left)),
-      rw (part-behind 1 (a .args .places .now) (omega (arith, a .pre .1 .3, first .if1 .left))) (omega (arith, length-drop 1 (a .args .places .now), a .pre .1 .3, first .if1 .left)),
-      rw (part-behind 1 (a .args .summaries .now) (omega (arith, a .pre .1 .4, first .if1 .left))) (omega (arith, length-drop 1 (a .args .summaries .now), a .pre .1 .4, first .if1 .left)),
+      rw (part-to-end (a .args .table .now) 320) (omega (arith, length-drop 320 (a .args .table .now), a .pre .1 .2, first .if1 .left)),
+      rw (part-to-end (a .args .places .now) 1) (omega (arith, length-drop 1 (a .args .places .now), a .pre .1 .3, first .if1 .left)),
+      rw (part-to-end (a .args .summaries .now) 1) (omega (arith, length-drop 1 (a .args .summaries .now), a .pre .1 .4, first .if1 .left)),
     ),
   )
 
