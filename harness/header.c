@@ -189,6 +189,8 @@ static void entries(void)
 static void refused_readings(void)
 {
     const uint8_t overrun[] = { 0xE9, 0x81, 0x05 };
+    const uint8_t ended[] = { 0xE9, 0x00 };
+    const uint8_t left_over[] = { 0xEA, 0x07, 0xCF, 0x01, 0x05, 0xF2, 0x00, 0x85, 0x00 };
     uint8_t other[sizeof error];
 
     refused("the answer to a table too short",
@@ -199,7 +201,12 @@ static void refused_readings(void)
             ROADQUILL_LENGTH, 1);
     refused("the answer to E9 81 05",
             roadquill_read(overrun, sizeof overrun, 0, table, ROADQUILL_NUMBERS),
-            ROADQUILL_NESTING, 0);
+            ROADQUILL_OVERRUN, 0);
+    refused("the answer to E9 00", roadquill_read(ended, sizeof ended, 0, table, ROADQUILL_NUMBERS),
+            ROADQUILL_ENDED, 2);
+    refused("the answer to 85 00 behind the set",
+            roadquill_read(left_over, sizeof left_over, 4, table, ROADQUILL_NUMBERS),
+            ROADQUILL_LEFT_OVER, 7);
     memcpy(other, error, sizeof other);
     other[5] = 0xD5;
     refused("the answer to an error with a problem",

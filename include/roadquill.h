@@ -72,8 +72,7 @@ enum {
     ROADQUILL_TYPE = 3,         /* component type not E9, EA, EB or EC; 0 */
     ROADQUILL_LENGTH = 4,       /* length field of wrong form, or cut by its parent's end; place of that
                                    field */
-    ROADQUILL_NESTING = 5,      /* contents run past the parent, octets left over, or an element wanted
-                                   where the parent has ended; the element, first octet left, that end */
+    ROADQUILL_OVERRUN = 5,      /* reader: contents run past the parent; the element */
     ROADQUILL_ID = 6,           /* component ID not CF, or its length not allowed: INVOKE none to two,
                                    RESULT and ERROR one, REJECT none or one; place of the element,
                                    writer 0 */
@@ -99,16 +98,19 @@ enum {
     ROADQUILL_OUTPUT = 17,      /* writer: output too short; octets needed. So for an error's name */
     ROADQUILL_NUMBER = 18,      /* reader: parameter number over 16,383; its place (two octets hold no
                                    such number and a longer run is 9, so no reading gives it) */
+    ROADQUILL_LEFT_OVER = 20,   /* reader: octets left over behind an element that has to end with its
+                                   parent, the component or F2; the first octet left */
     ROADQUILL_PROBLEM = 21,     /* reader: wrong error or problem element or its length: an ERROR's not D4
                                    with length 1, a REJECT's not D5 with length 2; place of the element */
     ROADQUILL_LAYOUT = 22,      /* package layout: type not E1 to E6 (0), or C7 with the type's count of ID
                                    octets (E1 none; E2, E3, E4 4; E5, E6 8), then E8 and nothing else: the
-                                   element, or where it is wanted; or any fault that is 4 or 5 in a
+                                   element, or where it is wanted; or any fault that is 4, 5, 20 or 25 in a
                                    component, of these elements and of the components' lengths in E8, with
-                                   the places of 4 and 5; writer: type or count of ID octets, 0 */
+                                   their places; writer: type or count of ID octets, 0 */
     ROADQUILL_COUNT = 23,       /* no component in the package, or more than 8; place of E8, writer 0 */
-    ROADQUILL_PACKAGE = 24      /* Table 2 of X.S0004-540 does not let this package carry a component; place
+    ROADQUILL_PACKAGE = 24,     /* Table 2 of X.S0004-540 does not let this package carry a component; place
                                    of the first such, writer its index from 0 */
+    ROADQUILL_ENDED = 25        /* reader: an element wanted where the parent has ended; that end */
 };
 
 /*

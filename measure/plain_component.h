@@ -143,7 +143,7 @@ static int read_element(struct walk *w, uint8_t identifier, unsigned number,
     size_t place = *at;
 
     if (place == end)
-        return refuse_at(w, 5, place);
+        return refuse_at(w, 25, place);
     if (w->octets[place] != identifier)
         return refuse_at(w, number, place);
     *at = place + 1;
@@ -248,7 +248,7 @@ static int read_structure(struct reading *r, size_t start, size_t end)
     if (!read_length(&r->walk, start, &at, end, &length))
         return 0;
     if (at + length != end)
-        return refuse(r, 5, at + length);
+        return refuse(r, 20, at + length);
     if (!read_id(r, &at, end))
         return 0;
     if (r->kind->element != 0 && !read_code(r, &at, end))
@@ -256,7 +256,7 @@ static int read_structure(struct reading *r, size_t start, size_t end)
     if (!read_element(&r->walk, 0xF2, 8, &at, end, &length))
         return 0;
     if (at + length != end)
-        return refuse(r, 5, at + length);
+        return refuse(r, 20, at + length);
     return read_parameters(r, at, end);
 }
 

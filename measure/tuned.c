@@ -86,7 +86,7 @@ static inline size_t element_at(const uint8_t *octets, size_t *at, size_t end, u
     size_t place = *at;
 
     if (place >= end)
-        return refuse(told, 5, end);
+        return refuse(told, 25, end);
     if (octets[place] != identifier)
         return refuse(told, number, place);
     *at = length_at(octets, place + 1, end, length);
@@ -129,7 +129,7 @@ static inline __attribute__((always_inline)) size_t read_from(const uint8_t *oct
     if (at == 0)
         return refuse(told, 4, from + 1);
     if (length != end - at)
-        return refuse(told, 5, length > end - at ? from : at + length);
+        return length > end - at ? refuse(told, 5, from) : refuse(told, 20, at + length);
     element = at;
     if (!element_at(octets, &at, end, 0xCF, 6, &length, told))
         return 0;
@@ -169,7 +169,7 @@ static inline __attribute__((always_inline)) size_t read_from(const uint8_t *oct
     if (!element_at(octets, &at, end, 0xF2, 8, &length, told))
         return 0;
     if (at + length != end)
-        return refuse(told, 5, at + length);
+        return refuse(told, 20, at + length);
 
     row = &rows[which == 0 ? EMPTY - 1 : which - 1];
     names = row->names;

@@ -162,7 +162,7 @@ fn read_parameters(component: &[u8], set: Contents) -> Result<Vec<Parameter>, Re
 /// The octet at a place where an element must begin.
 pub(crate) fn wanted(component: &[u8], place: usize, end: usize) -> Result<u8, Refusal> {
     if place == end {
-        return Err(Refusal::new(5, place, "ended"));
+        return Err(Refusal::new(25, place, "ended"));
     }
     Ok(component[place])
 }
@@ -243,7 +243,7 @@ pub(crate) fn contents_to_the_end(
 ) -> Result<Contents, Refusal> {
     let contents = contents_within(component, place, field, end)?;
     if contents.end < end {
-        return Err(Refusal::new(5, contents.end, "left over"));
+        return Err(Refusal::new(20, contents.end, "left over"));
     }
     Ok(contents)
 }

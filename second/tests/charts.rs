@@ -264,7 +264,7 @@ fn packed_answers() {
 fn short_inputs() {
     assert_eq!(refused("", 0), (2, 0));
     assert_eq!(refused("E9", 0), (4, 1));
-    assert_eq!(refused("E9 00", 0), (5, 2));
+    assert_eq!(refused("E9 00", 0), (25, 2));
     assert_eq!(refused("30 00", 0), (3, 0));
     assert_eq!(refused("E9 80", 0), (4, 1));
     assert_eq!(refused("E9 81 05", 0), (5, 0));
@@ -274,7 +274,7 @@ fn short_inputs() {
     }
     for kind in ["EA", "EB", "EC"] {
         assert_eq!(refused(kind, 0), (4, 1));
-        assert_eq!(refused(&format!("{kind} 00"), 0), (5, 2));
+        assert_eq!(refused(&format!("{kind} 00"), 0), (25, 2));
     }
     for kind in ["E8", "ED", "CB", "6C"] {
         assert_eq!(refused(kind, 0), (3, 0));
@@ -381,18 +381,18 @@ fn order_at_an_element() {
     assert_eq!(refused("EA 03 CF 03 05", 4), (5, 2));
     assert_eq!(refused("EA 04 CF 02 05 06", 4), (6, 2));
     assert_eq!(refused("E9 05 CF 03 05 06 07", 4), (6, 2));
-    assert_eq!(refused("E9 04 CF 02 05 06", 4), (5, 6));
+    assert_eq!(refused("E9 04 CF 02 05 06", 4), (25, 6));
     // Operation code.
     assert_eq!(refused("E9 03 CF 00 F2", 4), (7, 4));
     assert_eq!(refused("E9 05 CF 00 D1 02 09", 4), (5, 4));
     assert_eq!(refused("E9 05 CF 00 D1 01 09", 4), (7, 4));
     assert_eq!(refused("E9 06 CF 00 D1 02 08 04", 4), (7, 4));
-    assert_eq!(refused("E9 06 CF 00 D1 02 09 04", 4), (5, 8));
+    assert_eq!(refused("E9 06 CF 00 D1 02 09 04", 4), (25, 8));
     // Set.
     assert_eq!(refused("EA 05 CF 01 05 F3 00", 4), (8, 5));
     assert_eq!(refused("EA 05 CF 01 05 F2 01", 4), (5, 5));
-    assert_eq!(refused("EA 06 CF 01 05 F2 00 00", 4), (5, 7));
-    assert_eq!(refused("EA 05 CF 01 05 F2 00 00", 4), (5, 7));
+    assert_eq!(refused("EA 06 CF 01 05 F2 00 00", 4), (20, 7));
+    assert_eq!(refused("EA 05 CF 01 05 F2 00 00", 4), (20, 7));
     assert_eq!(refused("EA 06 CF 01 05 F2 00", 4), (5, 0));
     // Parameters.
     assert_eq!(refused("EA 06 CF 01 05 F2 01 85", 4), (4, 8));
@@ -411,7 +411,7 @@ fn order_at_the_error_and_the_problem() {
             refused(&format!("{start} {count:02X} CF 01 05 {body}"), 4)
         };
         let code = "01 ".repeat(size);
-        assert_eq!(at(""), (5, 5));
+        assert_eq!(at(""), (25, 5));
         for other in ["D1", "D1 80", "D1 7F"] {
             assert_eq!(at(other), (21, 5));
         }
@@ -423,7 +423,7 @@ fn order_at_the_error_and_the_problem() {
             let field = format!("{padding}{size:02X}");
             assert_eq!(at(&format!("{element} {field}")), (5, 5));
             let end = 6 + field.split_whitespace().count() + size;
-            assert_eq!(at(&format!("{element} {field} {code}")), (5, end as u32));
+            assert_eq!(at(&format!("{element} {field} {code}")), (25, end as u32));
         }
         assert_eq!(at(&format!("{element} 04 {code}")), (5, 5));
         assert_eq!(at(&format!("{element} 00")), (21, 5));
@@ -433,7 +433,7 @@ fn order_at_the_error_and_the_problem() {
         assert_eq!(at(&format!("{long} F3")), (21, 5));
         let sound = format!("{element} {size:02X} {code}");
         let set = 7 + size as u32;
-        assert_eq!(at(&sound), (5, set));
+        assert_eq!(at(&sound), (25, set));
         assert_eq!(at(&format!("{sound} F3")), (8, set));
         assert_eq!(at(&format!("{sound} F2")), (4, set + 1));
         // The ID comes before.
@@ -670,7 +670,7 @@ fn no_row_of_an_invoke_gives_the_specifier_s_place() {
 #[test]
 fn listing_example() {
     let input = octets("02 00 01 04 01 00 09 EA 07 CF 01 05 F2 02 85 00 01 00 02 E9 00");
-    let expected = "item answer detail named other\n1 0 0 1 0\n2 5 2 0 0\n";
+    let expected = "item answer detail named other\n1 0 0 1 0\n2 25 2 0 0\n";
     assert_eq!(list(&input), expected);
 }
 

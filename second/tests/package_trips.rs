@@ -239,7 +239,7 @@ fn every_reader_number_is_reached_at_each_index() {
     for number in [1, 2, 22, 23] {
         check_reached(&others, number, 0..2, 50);
     }
-    for number in [3, 4, 5, 6, 7, 8, 9, 10, 11, 12, 13, 14, 21] {
+    for number in [3, 4, 5, 6, 7, 8, 9, 10, 11, 12, 13, 14, 20, 21, 25] {
         check_reached(&own, number, 0..MOST_COMPONENTS, 1);
         check_reached(&own, number, 0..2, 20);
     }

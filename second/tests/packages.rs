@@ -257,8 +257,8 @@ fn counts() {
 const REFUSED: [(&str, u8, u32); 17] = [
     ("ED 07 CF 01 05 F2 02 85 00", 3, 0),
     ("EA 06 CF 80 05 F2 01 85", 4, 3),
-    ("EA 04 CF 81 01 05", 5, 6),
-    ("EA 07 CF 01 05 F2 01 85 00", 5, 8),
+    ("EA 04 CF 81 01 05", 25, 6),
+    ("EA 07 CF 01 05 F2 01 85 00", 20, 8),
     ("EA 07 CF 01 05 F2 03 85 00", 5, 5),
     ("EA 06 CF 00 F2 02 85 00", 6, 2),
     ("E9 08 CF 00 D1 02 08 04 F2 00", 7, 4),
@@ -405,7 +405,7 @@ fn reaching_into_the_next() {
     let left = FIRST + 9;
     assert_eq!(
         number_of(&with_sequence(0xE4, &sequence), [4; 8]),
-        (5, left)
+        (20, left)
     );
     // with its set: the next one's octets are read as parameters, and EA is none
     first[6] += 9;

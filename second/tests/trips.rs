@@ -167,7 +167,7 @@ fn row_numbers(kind: &ComponentType) -> &'static [u64] {
 
 fn reader_numbers(kind: &ComponentType) -> Vec<u64> {
     let code = kind.code.iter().map(|code| u64::from(code.refused_by));
-    let numbers = [0, 1, 2, 4, 5, 6, 8, 9, 10].into_iter().chain(code);
+    let numbers = [0, 1, 2, 4, 5, 6, 8, 9, 10, 20, 25].into_iter().chain(code);
     numbers.chain(row_numbers(kind).iter().copied()).collect()
 }
 
@@ -287,7 +287,7 @@ fn faults_at_code(kind: &ComponentType) -> Vec<(u8, &'static str)> {
     };
     let own = ["identifier", "length", "family"].map(|why| (code.refused_by, why));
     let own = &own[..2 + code.family.len()];
-    let shared = [(4, "cut"), (4, "form"), (5, "ended"), (5, "overrun")];
+    let shared = [(4, "cut"), (4, "form"), (5, "overrun"), (25, "ended")];
     [&shared, own].concat()
 }
 

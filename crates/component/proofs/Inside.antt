@@ -40,7 +40,7 @@ module _ (s : Octets) (o : AreOctets s) where
       go : (l : L.Length) → lengthAt (between from end s) ≡ l → spanOf at from end l ≡ accepted x → Held from end x
       go (LV.Is n k) p q =
           let h = Length.inside (between from end s) (octets-between s o from end) p in
-          let (t, r) = passed (leb (from + k + n) end) 5 at q in
+          let (t, r) = passed (leb (from + k + n) end) _ at q in
           let i = leb-true (from + k + n) end t in
           let y : span (from + k) (from + k + n) ≡ x = cc in
           rw (← y) (record { behind = omega arith; ordered = omega arith; inside = i })
@@ -49,7 +49,7 @@ module _ (s : Octets) (o : AreOctets s) where
   pub wanted-inside : (octet number : ℕ) {at end : ℕ} {x : Span} → wanted s octet number at end ≡ accepted x → Held (suc at) end x
   unfolding wanted
   wanted-inside octet number {at} {end} e =
-      let (_, f) = passed (ltb at end) 5 end e in
+      let (_, f) = passed (ltb at end) _ end e in
       let (_, g) = passed (eqb (getD s at 0) octet) number at f in
       let h = inside at g in
       record { behind = omega arith; ordered = h .ordered; inside = h .inside }

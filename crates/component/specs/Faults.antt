@@ -47,7 +47,7 @@ pub data LeftOver (ns : Numbers) (head : Octets) (at : ℕ) : Octets → (number
 
 -- those of a component
 abbrev pub component : Numbers
-component = record { field = 4; extent = 5; end = 5; rest = 5 }
+component = record { field = 4; extent = 5; end = 25; rest = 20 }
 
 -- ---- the parameters, of which `room` more are allowed: 10, 9, and 4 and 5 of each
 pub data InSet : (room at : ℕ) → Octets → (number detail : ℕ) → Type 0 where
@@ -59,7 +59,7 @@ pub data InSet : (room at : ℕ) → Octets → (number detail : ℕ) → Type 0
       Element head body e
       → InSet room (at + length e) rest n d → InSet (suc room) at (e ++ rest) n d
 
--- ---- the set: 8, and 5 where it ends early
+-- ---- the set: 8, and 20 where it ends early
 pub data NoSet (at : ℕ) : Octets → (number detail : ℕ) → Type 0 where
   unfound : {s : Octets} {n d : ℕ} → Unfound component 0xF2 8 at s n d → NoSet at s n d
   left-over : {s : Octets} {n d : ℕ} → LeftOver component (0xF2 ∷ []) at s n d → NoSet at s n d

@@ -12,6 +12,7 @@ use Rattle.element.specs.Octets.{Octets, if, between}
 use Rattle.element.specs.Answer.{Answer, accepted, refused, _>>=_, _>>_, check}
 use Rattle.element.specs.Decoded.{lengthAt, identifierAt}
 use Rattle.component.specs.Types.{Coding, uncoded, coded, codingOf, familySize, codeSize, typed, idFits}
+use Rattle.component.specs.Faults.{component}
 use Rattle.component.specs.Table.{Entry, next}
 
 -- ---- one element
@@ -27,9 +28,9 @@ sizeOf x = x .end - x .start
 
 unfoldable pub spanOf : (at from end : ℕ) → L.Length → Answer Span
 spanOf at from end (LV.Is value octets) = do
-  check (leb (from + octets + value) end) 5 at
+  check (leb (from + octets + value) end) (component .extent) at
   accepted (span (from + octets) (from + octets + value))
-spanOf at from end LV.Wrong = refused 4 from
+spanOf at from end LV.Wrong = refused (component .field) from
 
 -- the contents of the element at `at`, whose length field stands at `from`, in a parent that ends at `end`
 unfoldable pub contents : Octets → (at from end : ℕ) → Answer Span
@@ -38,7 +39,7 @@ contents s at from end = spanOf at from end (lengthAt (between from end s))
 -- the element of one identifier octet that is wanted at `at`: another octet there is refused by `number`
 unfoldable pub wanted : Octets → (octet number at end : ℕ) → Answer Span
 wanted s octet number at end = do
-  check (ltb at end) 5 end
+  check (ltb at end) (component .end) end
   check (eqb (getD s at 0) octet) number at
   contents s at (at + 1) end
 
@@ -47,7 +48,7 @@ wanted s octet number at end = do
 unfoldable pub elementFrom : Octets → (at : ℕ) → Answer Span
 elementFrom s at = do
   check (leb (length s) 4096) 2 0
-  check (ltb at (length s)) 5 (length s)
+  check (ltb at (length s)) (component .end) (length s)
   contents s at (at + 1) (length s)
 
 unfoldable pub wantedFrom : Octets → (octet number at : ℕ) → Answer Span
@@ -59,7 +60,7 @@ wantedFrom s octet number at = do
 unfoldable pub setAt : Octets → (at end : ℕ) → Answer Span
 setAt s at end = do
   f ← wanted s 0xF2 8 at end
-  check (eqb (f .end) end) 5 (f .end)
+  check (eqb (f .end) end) (component .rest) (f .end)
   accepted f
 
 -- ---- all but the parameters
@@ -100,7 +101,7 @@ unfoldable pub headFrom : Octets → (from : ℕ) → Answer Head
 headFrom s from = do
   check (typed (getD s from 0)) 3 0
   x ← contents s from (from + 1) (length s)
-  check (eqb (x .end) (length s)) 5 (x .end)
+  check (eqb (x .end) (length s)) (component .rest) (x .end)
   bodyAt s (getD s from 0) x
 
 -- the same, with 2 asked first
@@ -128,7 +129,7 @@ parameterAt s at end = parameter s at end (identifierAt (between at end s))
 unfoldable pub parameterFrom : Octets → (at : ℕ) → Answer Entry
 parameterFrom s at = do
   check (leb (length s) 4096) 2 0
-  check (ltb at (length s)) 5 (length s)
+  check (ltb at (length s)) (component .end) (length s)
   parameterAt s at (length s)
 
 -- the parameters from `at` to `end`, where `room` more are allowed

@@ -32,6 +32,16 @@ ghost use Rattle.component.specs.inner.Bodied.{bodyIn};
 
 // ---- one element
 
+// The numbers of its faults: no length field, contents that run past the parent, octets left over, and an element wanted
+// where the parent has ended.
+const NO_FIELD: u8 = 4;
+
+const OVERRUN: u8 = 5;
+
+const LEFT_OVER: u8 = 20;
+
+const ENDED: u8 = 25;
+
 // The contents of the element at `at`, whose length field stands at `from`, in a parent that ends at `end`.
 fn contents_at(s: &[u8], at: usize, from: usize, end: usize) -> Span
     requires { ⌜ (at ≤ from) × (from ≤ end) × (end ≤ length (now s)) × (length (now s) ≤ 4096) ⌝ }
@@ -47,12 +57,12 @@ fn contents_at(s: &[u8], at: usize, from: usize, end: usize) -> Span
                 };
             }
             Span::Refused {
-                number: 5,
+                number: OVERRUN,
                 detail: at as u32,
             }
         }
         Length::Wrong => Span::Refused {
-            number: 4,
+            number: NO_FIELD,
             detail: from as u32,
         },
     }
@@ -75,13 +85,13 @@ fn wanted_at(s: &[u8], octet: u8, number: u8, at: usize, end: usize) -> Span
     }
     if end <= at {
         return Span::Refused {
-            number: 5,
+            number: ENDED,
             detail: end as u32,
         };
     }
     if s[at] == octet {
         return Span::Refused {
-            number: 4,
+            number: NO_FIELD,
             detail: (at + 1) as u32,
         };
     }
@@ -103,7 +113,7 @@ pub fn element_from(octets: &[u8], at: usize) -> Span
     }
     if octets.len() <= at {
         return Span::Refused {
-            number: 5,
+            number: ENDED,
             detail: octets.len() as u32,
         };
     }
@@ -122,7 +132,7 @@ pub fn wanted_from(octets: &[u8], octet: u8, number: u8, at: usize) -> Span
     }
     if octets.len() < at {
         return Span::Refused {
-            number: 5,
+            number: ENDED,
             detail: octets.len() as u32,
         };
     }
@@ -146,7 +156,7 @@ fn set_at(s: &[u8], at: usize, end: usize) -> Span
                 };
             }
             Span::Refused {
-                number: 5,
+                number: LEFT_OVER,
                 detail: set_end as u32,
             }
         }
@@ -316,7 +326,7 @@ pub fn head_from(octets: &[u8], from: usize) -> Head
         Span::Found { start, end } => {
             if end != octets.len() {
                 return Head::Refused {
-                    number: 5,
+                    number: LEFT_OVER,
                     detail: end as u32,
                 };
             }
@@ -367,7 +377,7 @@ pub fn parameter_from(octets: &[u8], at: usize) -> Parameter
     }
     if octets.len() <= at {
         return Parameter::Refused {
-            number: 5,
+            number: ENDED,
             detail: octets.len() as u32,
         };
     }

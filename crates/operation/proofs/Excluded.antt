@@ -2,29 +2,30 @@
 use Prim.Native.Nat.{ℕ, _+_, _<_, _≤_}
 use mathlib.Core.Path.{_≡_, refl, sym, ap, _∙_}
 use mathlib.Core.Bool.{true≢false}
-use mathlib.Core.List.{List, [], _∷_, map}
+use mathlib.Core.List.{List, [], _∷_, _++_, append-nil, map}
 use mathlib.Core.Logic.{inr}
 use lib.ListN.{length, getD, drop, replicate}
 use borrow.Author.Tests.{ne-eqb}
+use native.Mathlib.Nat.{zero-add}
 use native.Mathlib.Decide.{decLe}
 use native.Mathlib.Omega.{arith}
 use Rattle.element.specs.Octets.{Octets, AreOctets}
 use Rattle.element.specs.Answer.{Answer, accepted, refused}
-use Rattle.element.specs.Length.{shortest, fieldSize}
+use Rattle.element.specs.Length.{LengthField, shortest, fieldSize}
 use Rattle.element.specs.Identifier.{identifier, identifierSize}
 use Rattle.element.proofs.Reading.{small}
 use Rattle.component.specs.Table.{Entry, width, tableSize, tableWith, held, heldFrom, parameterOf, idOctets, writtenCode, componentOf}
-use Rattle.component.specs.Grammar.{Parameter, Component, Laid}
+use Rattle.component.specs.Grammar.{Parameter, Component, Element, Coded, Laid}
 use Rattle.component.specs.Shortest.{Shortest}
 use Rattle.component.proofs.Deciding.{ask}
 use Rattle.component.proofs.Shortening.{shorter}
-use Rattle.component.specs.Faults.{LaidOut}
+use Rattle.component.specs.Faults.{overrun, ended, left, NoSet, NoCode, NoBody, Whole, Faulty, LaidOut}
 use Rattle.component.specs.Standing.{standing}
 use Rattle.component.specs.Part.{fits}
 use Rattle.component.specs.Composed.{element, setOf, codeElement, composed}
 use Rattle.component.specs.Composing.{entryStands, takenFrom, entriesFrom, entriesOf, octetsOf}
 use Rattle.element.specs.Output.{written, outputAfter}
-use Rattle.component.specs.Types.{formatOf, typed, idFits}
+use Rattle.component.specs.Types.{codingOf, Typed, Allowed, formatOf, typed, idFits}
 use Rattle.component.specs.Needed.{elementSize, setSize, codingSize, bodySize, octetsNeeded}
 use Rattle.operation.specs.Row.{Row, key, numberOf, members, someOf, among, onLine, asks, named, named as names, repeats}
 use Rattle.operation.specs.Judge.{occurs, lastMark, once, met, present, doubled, single, judge, countNamed}
@@ -242,9 +243,40 @@ module _ (r : Reader) (w : Writer) (d : Demands r w) where
   pub two-in-a-reject-refused : r reject-of-two 0 zeros ≡ read (refused 6 2) zeros
   two-in-a-reject-refused = ours-is reject-of-two 0 zeros (small reject-of-two (omega arith)) ∙ ap (at 41) rows-live
 
-  -- 5 where the parent has ended, before 21 can be asked
-  pub ended-before-the-code : r error-ended 0 zeros ≡ read (refused 5 5) zeros
+  -- 25 where the parent has ended, before 21 can be asked
+  pub ended-before-the-code : r error-ended 0 zeros ≡ read (refused 25 5) zeros
   ended-before-the-code = ours-is error-ended 0 zeros (small error-ended (omega arith)) ∙ ap (at 38) rows-live
+
+  -- ---- 5, 20 and 25, over any octets: of any type, and with lengths of any form
+  module _ (given : ℕ) (t : List ℕ) (enough : tableSize ≤ length t) where
+    refuses-so : {s : Octets} {kind n d : ℕ} → AreOctets s → length s ≤ 4096 → Typed kind → Whole kind s n d → r s given t ≡ read (refused n d) t
+    refuses-so {s} o short k f =
+        ours-is s given t o ∙ refused-so s o given t (reader-refuses s o given t (ReaderRefuses.fault enough (Faulty.whole short k f)))
+
+    -- contents that run past the octets: the element
+    pub overrun-is-5 : {kind n : ℕ} {field : Octets} (rest : Octets) → let s = kind ∷ (field ++ rest) in AreOctets s → length s ≤ 4096 →
+        Typed kind → LengthField n field → length rest < n → r s given t ≡ read (refused 5 0) t
+    overrun-is-5 rest o short k f h = refuses-so o short k (Whole.unheld (overrun rest f h))
+
+    -- octets behind the component: the first of them
+    pub left-over-is-20 : {kind : ℕ} {body e : Octets} (a : ℕ) (rest : Octets) → let s = e ++ (a ∷ rest) in AreOctets s → length s ≤ 4096 →
+        Typed kind → Element (kind ∷ []) body e → r s given t ≡ read (refused 20 (length e)) t
+    left-over-is-20 {e = e} a rest o short k l = rw (zero-add (length e)) at (refuses-so o short k (Whole.left-over (left a rest l)))
+
+    -- octets behind the set: the first of them, and not the set
+    pub left-behind-the-set : {kind : ℕ} {field id i code c set f : Octets} (a : ℕ) (rest : Octets) → let body = i ++ (c ++ (f ++ (a ∷ rest))) in
+        let s = kind ∷ (field ++ body) in AreOctets s → length s ≤ 4096 → Typed kind → LengthField (length body) field → Element (0xCF ∷ []) id i →
+        Allowed kind (length id) → Coded (codingOf kind) code c → Element (0xF2 ∷ []) set f →
+        r s given t ≡ read (refused 20 (1 + length field + length i + length c + length f)) t
+    left-behind-the-set a rest o short k l i w c f =
+        refuses-so o short k (Whole.inside l (NoBody.behind i w (NoCode.behind c (NoSet.left-over (left a rest f)))))
+
+    -- nothing where the component ID is wanted: the end
+    pub ended-is-25 : {kind : ℕ} {field : Octets} → let s = kind ∷ field in AreOctets s → length s ≤ 4096 → Typed kind → LengthField 0 field →
+        r s given t ≡ read (refused 25 (1 + length field)) t
+    ended-is-25 {kind} {field} o short k f =
+        let h : Whole kind (kind ∷ (field ++ [])) 25 (1 + length field) = Whole.inside f (NoBody.unfound ended) in
+        refuses-so o short k (rw (append-nil field) at h)
 
   -- ---- padded lengths
   pub leading-zero-taken : r padded 4 zeros ≡ read (accepted (record { kind = 0xEA; id = record { count = 1; first = 5; second = 0 }; code = record { first = 4; second = 0 }; all = 1; named = 1; other = 0 })) (5 ∷ 0 ∷ 16 ∷ 0 ∷ 12 ∷ replicate 315 0)

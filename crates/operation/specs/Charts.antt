@@ -1,7 +1,8 @@
 -- The starred charts of the paper in one table; and, that no row is empty, for each row a component that it accepts,
 -- and one for each of 11 to 14 that it can refuse with; and, for a type without rows, one that is accepted and one for
--- each way its ID and its code can be refused; and the forms of a length; and a group's members. Each with what is told
--- and what the lent table then holds.
+-- each way its ID and its code can be refused; and the forms of a length; and a group's members; and what runs past its
+-- parent, is left over, or is wanted where the parent has ended. Each with what is told and what the lent table then
+-- holds.
 use Prim.Native.Nat.{ℕ}
 use mathlib.Core.List.{List, [], _∷_, _++_}
 use lib.ListN.{length, drop, replicate}
@@ -79,7 +80,7 @@ starred =
     ∷ refuses 4 (0xEA ∷ 0x05 ∷ 0xCF ∷ 0x01 ∷ 0x05 ∷ 0xF2 ∷ 0x00 ∷ []) 13 5
     ∷ refuses 0 [] 2 0
     ∷ refuses 0 (0xE9 ∷ []) 4 1
-    ∷ refuses 0 (0xE9 ∷ 0x00 ∷ []) 5 2
+    ∷ refuses 0 (0xE9 ∷ 0x00 ∷ []) 25 2
     ∷ refuses 0 (0x30 ∷ 0x00 ∷ []) 3 0
     ∷ []
 
@@ -208,7 +209,7 @@ living =
     -- ERROR: two octets of code
     ∷ refuses 0 (0xEB ∷ 0x09 ∷ 0xCF ∷ 0x01 ∷ 0x05 ∷ 0xD4 ∷ 0x02 ∷ 0x81 ∷ 0x81 ∷ 0xF2 ∷ 0x00 ∷ []) 21 5
     -- ERROR: ended where its element is wanted
-    ∷ refuses 0 (0xEB ∷ 0x03 ∷ 0xCF ∷ 0x01 ∷ 0x05 ∷ []) 5 5
+    ∷ refuses 0 (0xEB ∷ 0x03 ∷ 0xCF ∷ 0x01 ∷ 0x05 ∷ []) 25 5
     -- REJECT: accepted
     ∷ takes 0 (0xEC ∷ 0x08 ∷ 0xCF ∷ 0x00 ∷ 0xD5 ∷ 0x02 ∷ 0x01 ∷ 0x01 ∷ 0xF2 ∷ 0x00 ∷ []) (rejected 0x01 0x01 0) []
     -- REJECT: the first problem octet is told first
@@ -290,4 +291,11 @@ living =
     ∷ takes 0 (0xE9 ∷ 0x13 ∷ 0xCF ∷ 0x01 ∷ 0x05 ∷ 0xD1 ∷ 0x02 ∷ 0x09 ∷ 0x25 ∷ 0xF2 ∷ 0x0A ∷ 0x81 ∷ 0x00 ∷ 0x86 ∷
     0x00 ∷ 0x82 ∷ 0x00 ∷ 0x9F ∷ 0x81 ∷ 0x69 ∷ 0x00 ∷ []) (said 0xE9 37 4 3 1)
     (1 ∷ 0 ∷ 13 ∷ 0 ∷ 11 ∷ 6 ∷ 0 ∷ 15 ∷ 0 ∷ 13 ∷ 2 ∷ 0 ∷ 17 ∷ 0 ∷ 15 ∷ 233 ∷ 0 ∷ 21 ∷ 0 ∷ 17 ∷ [])
+    -- contents of a parameter that run past the set
+    ∷ refuses 4 (0xEA ∷ 0x07 ∷ 0xCF ∷ 0x01 ∷ 0x05 ∷ 0xF2 ∷ 0x02 ∷ 0x85 ∷ 0x01 ∷ []) 5 7
+    -- octets behind the set, and behind the component
+    ∷ refuses 4 (0xEA ∷ 0x07 ∷ 0xCF ∷ 0x01 ∷ 0x05 ∷ 0xF2 ∷ 0x00 ∷ 0x85 ∷ 0x00 ∷ []) 20 7
+    ∷ refuses 4 (0xEA ∷ 0x05 ∷ 0xCF ∷ 0x01 ∷ 0x05 ∷ 0xF2 ∷ 0x00 ∷ 0x85 ∷ 0x00 ∷ []) 20 7
+    -- ended where the set is wanted
+    ∷ refuses 4 (0xEA ∷ 0x03 ∷ 0xCF ∷ 0x01 ∷ 0x05 ∷ []) 25 5
     ∷ []

@@ -1,5 +1,5 @@
--- What order 5 shuts out: any package reader that satisfies the demands reads the charts as ours does, so each program that
--- reads one of these otherwise satisfies them not.
+-- What orders 5 and 6 shut out: any package reader that satisfies the demands reads the charts as ours does, so each
+-- program that reads one of these otherwise satisfies them not.
 use Prim.Native.Nat.{ℕ, zero, suc}
 use mathlib.Core.Path.{_≡_, refl, ap, _∙_}
 use mathlib.Core.Bool.{Bool, true, _&&_}
@@ -43,42 +43,55 @@ module _ (r : Reader) (w : Writer) (d : Demands r w) where
   abbrev pub Reads : ℕ → Type 0
   Reads i = r (chart i .octets) (chart i .specifiers) zeros ≡ chart i .read
 
-  as-charted : (c : Chart) → AreOctets (c .octets) → reads c ≡ c .read → r (c .octets) (c .specifiers) zeros ≡ c .read
+  as-charted : (i : ℕ) → below (chart i .octets) ≡ true → reads (chart i) ≡ chart i .read → Reads i
   unfolding OnlyOne
-  as-charted c o e = only-one r w d .0 (c .octets) (c .specifiers) zeros o ∙ e
+  as-charted i o e = only-one r w d .0 (chart i .octets) (chart i .specifiers) zeros (are-octets (chart i .octets) o) ∙ e
 
   -- a dialogue portion is not skipped
   pub dialogue-refused : Reads 6
-  dialogue-refused = as-charted (chart 6) (are-octets (chart 6 .octets) refl) (ap (nth nothing 6) charts)
+  dialogue-refused = as-charted 6 refl (ap (nth nothing 6) charts)
 
   -- the second component's numbers do not stand at 256
   pub second-at-320 : Reads 7
-  second-at-320 = as-charted (chart 7) (are-octets (chart 7 .octets) refl) (ap (nth nothing 7) charts)
+  second-at-320 = as-charted 7 refl (ap (nth nothing 7) charts)
 
   -- the second component goes by the second specifier
   pub each-by-its-own : Reads 9
-  each-by-its-own = as-charted (chart 9) (are-octets (chart 9 .octets) refl) (ap (nth nothing 9) charts)
+  each-by-its-own = as-charted 9 refl (ap (nth nothing 9) charts)
 
   -- 24 does not come before the second component's own refusal
   pub carriage-behind-the-components : Reads 10
-  carriage-behind-the-components = as-charted (chart 10) (are-octets (chart 10 .octets) refl) (ap (nth nothing 10) charts)
+  carriage-behind-the-components = as-charted 10 refl (ap (nth nothing 10) charts)
 
   -- a place does not count from the component's start
   pub places-of-the-package : Reads 11
-  places-of-the-package = as-charted (chart 11) (are-octets (chart 11 .octets) refl) (ap (nth nothing 11) charts)
+  places-of-the-package = as-charted 11 refl (ap (nth nothing 11) charts)
 
   -- nine components are not taken
   pub nine-refused : Reads 13
-  nine-refused = as-charted (chart 13) (are-octets (chart 13 .octets) refl) (ap (nth nothing 13) charts)
+  nine-refused = as-charted 13 refl (ap (nth nothing 13) charts)
 
   -- 23 does not come before 22: the walk goes past the eighth
   pub layout-before-the-count : Reads 14
-  layout-before-the-count = as-charted (chart 14) (are-octets (chart 14 .octets) refl) (ap (nth nothing 14) charts)
+  layout-before-the-count = as-charted 14 refl (ap (nth nothing 14) charts)
 
   -- a transaction ID of four octets is not enough in a CONVERSATION
   pub eight-in-a-conversation : Reads 15
-  eight-in-a-conversation = as-charted (chart 15) (are-octets (chart 15 .octets) refl) (ap (nth nothing 15) charts)
+  eight-in-a-conversation = as-charted 15 refl (ap (nth nothing 15) charts)
 
   -- a length is held against its parent's end, and not against the package's
   pub parent-ends-the-set : Reads 16
-  parent-ends-the-set = as-charted (chart 16) (are-octets (chart 16 .octets) refl) (ap (nth nothing 16) charts)
+  parent-ends-the-set = as-charted 16 refl (ap (nth nothing 16) charts)
+
+  -- its own elements keep 22, a component's have 20 and 25
+  pub ended-is-22 : Reads 22
+  ended-is-22 = as-charted 22 refl (ap (nth nothing 22) charts)
+
+  pub left-over-is-22 : Reads 23
+  left-over-is-22 = as-charted 23 refl (ap (nth nothing 23) charts)
+
+  pub left-over-inside-is-20 : Reads 25
+  left-over-inside-is-20 = as-charted 25 refl (ap (nth nothing 25) charts)
+
+  pub ended-inside-is-25 : Reads 26
+  ended-inside-is-25 = as-charted 26 refl (ap (nth nothing 26) charts)

@@ -70,8 +70,8 @@ pub fn read(
     })
 }
 
-/// The faults of an element, 4 and 5 in a component, are 22 in a package, with
-/// the same places.
+/// The faults of an element, 4, 5, 20 and 25 in a component, are 22 in a
+/// package, with the same places.
 fn as_layout(refusal: Refusal) -> Refusal {
     Refusal {
         number: 22,

@@ -5,7 +5,7 @@ use super::{full, package, short, specifier_of, PackageCase, CONVERSING, SPECIFI
 use crate::directed::limits::crowd;
 use crate::directed::parts::{sound, Part};
 use crate::directed::{draft, filling};
-use crate::generate::draft::{Draft, Element, Length};
+use crate::generate::draft::{Draft, Element, Form, Length};
 use crate::generate::package_draft::PackageDraft;
 use crate::package::{CONVERSATION, MOST_COMPONENTS, QUERY, RESPONSE};
 use crate::reader::MOST_PARAMETERS;
@@ -60,7 +60,12 @@ fn refused() -> Vec<Draft> {
         };
         drafts.push(other(&|draft| draft.kind = 0xED));
         drafts.push(other(&|draft| draft.set_length = Length::Raw(vec![0x80])));
+        drafts.push(other(&|draft| {
+            draft.set_length = Length::Off(Form::Shortest, 1)
+        }));
         drafts.push(other(&|draft| draft.behind_set = filling(2)));
+        drafts.push(other(&|draft| draft.body_cut = Some(0)));
+        drafts.push(other(&|draft| draft.set_identifier = None));
         drafts.push(other(&|draft| {
             draft.id = Some(Element::new(vec![0xCF], filling(3)))
         }));

@@ -10,6 +10,7 @@ use native.Mathlib.Omega.{arith}
 use borrow.Author.Tests.{le-leb, lt-leb, le-ltb, lt-ltb, eq-eqb, ne-eqb}
 use Rattle.element.specs.Answer.{accepted, _>>=_, _>>_, check}
 use Rattle.component.specs.Types.{typed}
+use Rattle.component.specs.Faults.{component}
 use Rattle.component.specs.Layout.{span, contents, bodyAt, headAt, headFrom}
 use Rattle.component.specs.Told.{spanIn}
 use Rattle.component.specs.inner.Bodied.{bodyIn}
@@ -23,7 +24,7 @@ kind : (c : tie.Else4) → typed (getD (c .before .before .before .before .befor
 kind c = known (omega (arith, c .before .if3 .left, c .if4 .left))
 
 -- what is left to be asked then
-begun : (c : tie.Else4) → let s = c .before .before .before .before .before .before .args .octets .now in let from = c .before .before .before .before .before .before .args .from in headAt s from ≡ (contents s from (from + 1) (length s) >>= λ x. check (eqb (x .end) (length s)) 5 (x .end) >> bodyAt s (getD s from 0) x)
+begun : (c : tie.Else4) → let s = c .before .before .before .before .before .before .args .octets .now in let from = c .before .before .before .before .before .before .args .from in headAt s from ≡ (contents s from (from + 1) (length s) >>= λ x. check (eqb (x .end) (length s)) (component .rest) (x .end) >> bodyAt s (getD s from 0) x)
 unfolding headAt headFrom
 begun c = simp (lt-ltb _ _ (c .before .before .before .before .if1 .left), le-leb _ 4096 (c .before .before .before .if2 .left), kind c)
 
