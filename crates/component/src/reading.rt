@@ -32,8 +32,8 @@ ghost use Rattle.component.specs.inner.Bodied.{bodyIn};
 
 // ---- one element
 
-// The numbers of its faults: no length field, contents that run past the parent, octets left over, and an element wanted
-// where the parent has ended.
+// The numbers of its faults: no length field, contents that run past the parent, octets left over, and an element
+// wanted where the parent has ended.
 const NO_FIELD: u8 = 4;
 
 const OVERRUN: u8 = 5;
@@ -149,15 +149,15 @@ fn set_at(s: &[u8], at: usize, end: usize) -> Span
             start,
             end: set_end,
         } => {
-            if set_end == end {
-                return Span::Found {
-                    start,
-                    end: set_end,
+            if set_end != end {
+                return Span::Refused {
+                    number: LEFT_OVER,
+                    detail: set_end as u32,
                 };
             }
-            Span::Refused {
-                number: LEFT_OVER,
-                detail: set_end as u32,
+            Span::Found {
+                start,
+                end: set_end,
             }
         }
         Span::Refused { number, detail } => Span::Refused { number, detail },
