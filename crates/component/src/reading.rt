@@ -30,16 +30,18 @@ ghost use Rattle.component.specs.Part.{fits, partOf};
 ghost use Rattle.component.specs.Told.{spanIn, entryIn, headIn};
 ghost use Rattle.component.specs.inner.Bodied.{bodyIn};
 
-// ---- one element
+// ---- one element, and the numbers of its faults
 
-// The numbers of its faults: no length field, contents that run past the parent, octets left over, and an element
-// wanted where the parent has ended.
+// No length field.
 const NO_FIELD: u8 = 4;
 
+// Contents that run past the parent.
 const OVERRUN: u8 = 5;
 
+// Octets left over behind an element that has to end where its parent ends.
 const LEFT_OVER: u8 = 20;
 
+// An element wanted where the parent has ended.
 const ENDED: u8 = 25;
 
 // The contents of the element at `at`, whose length field stands at `from`, in a parent that ends at `end`.
