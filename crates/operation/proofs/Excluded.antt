@@ -1,25 +1,25 @@
 -- What the paper's list shuts out: none of these satisfies the demands, since each differs from ours on one input.
 use Prim.Native.Nat.{ℕ, _+_, _<_, _≤_}
-use mathlib.Core.Path.{_≡_, refl, sym, ap, _∙_}
+use mathlib.Core.Path.{_≡_, refl, sym, ap, subst, _∙_}
 use mathlib.Core.Bool.{true≢false}
 use mathlib.Core.List.{List, [], _∷_, _++_, append-nil, map}
 use mathlib.Core.Logic.{inr}
 use lib.ListN.{length, getD, drop, replicate}
 use borrow.Author.Tests.{ne-eqb}
-use native.Mathlib.Nat.{zero-add}
+use native.Mathlib.Nat.{add-zero, zero-add}
 use native.Mathlib.Decide.{decLe}
 use native.Mathlib.Omega.{arith}
 use Rattle.element.specs.Octets.{Octets, AreOctets}
 use Rattle.element.specs.Answer.{Answer, accepted, refused}
 use Rattle.element.specs.Length.{LengthField, shortest, fieldSize}
-use Rattle.element.specs.Identifier.{identifier, identifierSize}
+use Rattle.element.specs.Identifier.{IdentifierField, identifier, identifierSize}
 use Rattle.element.proofs.Reading.{small}
 use Rattle.component.specs.Table.{Entry, width, tableSize, tableWith, held, heldFrom, parameterOf, idOctets, writtenCode, componentOf}
 use Rattle.component.specs.Grammar.{Parameter, Component, Element, Coded, Laid}
 use Rattle.component.specs.Shortest.{Shortest}
 use Rattle.component.proofs.Deciding.{ask}
 use Rattle.component.proofs.Shortening.{shorter}
-use Rattle.component.specs.Faults.{overrun, ended, left, NoSet, NoCode, NoBody, Whole, Faulty, LaidOut}
+use Rattle.component.specs.Faults.{overrun, ended, left, InSet, NoSet, NoCode, NoBody, Whole, Faulty, LaidOut}
 use Rattle.component.specs.Standing.{standing}
 use Rattle.component.specs.Part.{fits}
 use Rattle.component.specs.Composed.{element, setOf, codeElement, composed}
@@ -253,30 +253,42 @@ module _ (r : Reader) (w : Writer) (d : Demands r w) where
     refuses-so {s} o short k f =
         ours-is s given t o ∙ refused-so s o given t (reader-refuses s o given t (ReaderRefuses.fault enough (Faulty.whole short k f)))
 
-    -- contents that run past the octets: the element
+    -- of the type's element: contents that run past the octets are 5 at 0, octets behind it 20 at the first of them, and
+    -- nothing in it, where the component ID is wanted, 25 at the end
     pub overrun-is-5 : {kind n : ℕ} {field : Octets} (rest : Octets) → let s = kind ∷ (field ++ rest) in AreOctets s → length s ≤ 4096 →
         Typed kind → LengthField n field → length rest < n → r s given t ≡ read (refused 5 0) t
     overrun-is-5 rest o short k f h = refuses-so o short k (Whole.unheld (overrun rest f h))
 
-    -- octets behind the component: the first of them
     pub left-over-is-20 : {kind : ℕ} {body e : Octets} (a : ℕ) (rest : Octets) → let s = e ++ (a ∷ rest) in AreOctets s → length s ≤ 4096 →
         Typed kind → Element (kind ∷ []) body e → r s given t ≡ read (refused 20 (length e)) t
     left-over-is-20 {e = e} a rest o short k l = rw (zero-add (length e)) at (refuses-so o short k (Whole.left-over (left a rest l)))
 
-    -- octets behind the set: the first of them, and not the set
-    pub left-behind-the-set : {kind : ℕ} {field id i code c set f : Octets} (a : ℕ) (rest : Octets) → let body = i ++ (c ++ (f ++ (a ∷ rest))) in
-        let s = kind ∷ (field ++ body) in AreOctets s → length s ≤ 4096 → Typed kind → LengthField (length body) field → Element (0xCF ∷ []) id i →
-        Allowed kind (length id) → Coded (codingOf kind) code c → Element (0xF2 ∷ []) set f →
-        r s given t ≡ read (refused 20 (1 + length field + length i + length c + length f)) t
-    left-behind-the-set a rest o short k l i w c f =
-        refuses-so o short k (Whole.inside l (NoBody.behind i w (NoCode.behind c (NoSet.left-over (left a rest f)))))
-
-    -- nothing where the component ID is wanted: the end
     pub ended-is-25 : {kind : ℕ} {field : Octets} → let s = kind ∷ field in AreOctets s → length s ≤ 4096 → Typed kind → LengthField 0 field →
         r s given t ≡ read (refused 25 (1 + length field)) t
     ended-is-25 {kind} {field} o short k f =
         let h : Whole kind (kind ∷ (field ++ [])) 25 (1 + length field) = Whole.inside f (NoBody.unfound ended) in
         refuses-so o short k (rw (append-nil field) at h)
+
+    -- behind the component ID and the code of a component these octets are refused with this number, so far behind
+    abbrev pub BehindTheCode : Octets → (number behind : ℕ) → Type 0
+    BehindTheCode u n d = (kind : ℕ) (field id i code c : Octets) → let body = i ++ (c ++ u) in let s = kind ∷ (field ++ body) in
+        AreOctets s → length s ≤ 4096 → Typed kind → LengthField (length body) field → Element (0xCF ∷ []) id i → Allowed kind (length id) →
+        Coded (codingOf kind) code c → r s given t ≡ read (refused n (1 + length field + length i + length c + d)) t
+
+    behind-the-code : {u : Octets} {n : ℕ} (d : ℕ) → ((at : ℕ) → NoSet at u n (at + d)) → BehindTheCode u n d
+    behind-the-code d f kind field id i code c o short k l j w m = refuses-so o short k (Whole.inside l (NoBody.behind j w (NoCode.behind m (f _))))
+
+    -- of the set: contents of its first parameter that run past it, octets behind it, and nothing where it is wanted
+    pub overrun-in-the-set : {number form n : ℕ} {sized head field : Octets} (rest : Octets) → let set = head ++ (field ++ rest) in
+        LengthField (length set) sized → IdentifierField number form head → LengthField n field → length rest < n →
+        BehindTheCode (0xF2 ∷ (sized ++ set)) 5 (1 + length sized)
+    overrun-in-the-set rest m p f h = behind-the-code _ (λ at. NoSet.inside m (InSet.unheld p (overrun rest f h)))
+
+    pub left-behind-the-set : {set e : Octets} (a : ℕ) (rest : Octets) → Element (0xF2 ∷ []) set e → BehindTheCode (e ++ (a ∷ rest)) 20 (length e)
+    left-behind-the-set a rest l = behind-the-code _ (λ at. NoSet.left-over (left a rest l))
+
+    pub ended-before-the-set : BehindTheCode [] 25 0
+    ended-before-the-set = behind-the-code 0 (λ at. subst (λ d. NoSet at [] 25 d) (sym (add-zero at)) (NoSet.unfound ended))
 
   -- ---- padded lengths
   pub leading-zero-taken : r padded 4 zeros ≡ read (accepted (record { kind = 0xEA; id = record { count = 1; first = 5; second = 0 }; code = record { first = 4; second = 0 }; all = 1; named = 1; other = 0 })) (5 ∷ 0 ∷ 16 ∷ 0 ∷ 12 ∷ replicate 315 0)
