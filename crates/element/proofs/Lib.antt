@@ -3,5 +3,4 @@ pub mod LengthLaws
 pub mod IdentifierLaws
 pub mod FieldLaws
 pub mod Outcomes
-pub mod Scanning
 pub mod Ways

@@ -1,6 +1,6 @@
 -- Each way out of a definition that goes by tests, as one law: what the tests on the way say, and the outcome.
 -- Assumes nothing.
-use Prim.Native.Nat.{ℕ, _+_, _*_, _/_, _%_, _<_, _≤_}
+use Prim.Native.Nat.{ℕ, _+_, _*_, _-_, _/_, _%_, _<_, _≤_}
 use mathlib.Core.Path.{_≡_}
 use lib.ListN.{length, getD}
 use borrow.Author.Tests.{le-leb, lt-leb, le-ltb, lt-ltb, ne-eqb}
@@ -103,6 +103,35 @@ module _ (s : Octets) where
       pub all-ones : 31 ≤ a % 32 → numbered (a / 32 % 2) s ≡ identifierAt s
       unfolding identifierAt
       all-ones h = simp (lt-leb (length s) 0, ← e, class, le-ltb (a % 32) 31)
+
+-- behind the ones, by how many octets there are
+module _ (form : ℕ) (s : Octets) where
+  pub none-behind : length s ≤ 1 → IV.IllFormed ≡ numbered form s
+  unfolding numbered
+  none-behind h = simp (le-leb (length s) 1)
+
+  module _ (b : ℕ) (e : b ≡ getD s 1 0) (some : 1 < length s) where
+    pub one-behind : b < 128 → within b form 2 ≡ numbered form s
+    unfolding numbered
+    one-behind h = simp (lt-leb (length s) 1, ← e, lt-ltb b 128)
+
+    pub leading-80 : b ≡ 128 → IV.IllFormed ≡ numbered form s
+    unfolding numbered
+    leading-80 h = simp (lt-leb (length s) 1, ← e, h)
+
+    module _ (h : 128 ≤ b) (n : b ≡ 128 → ⊥) where
+      pub cut-behind : length s ≤ 2 → IV.IllFormed ≡ numbered form s
+      unfolding numbered
+      cut-behind k = simp (lt-leb (length s) 1, ← e, le-ltb b 128, ne-eqb b 128, le-leb (length s) 2)
+
+      module _ (d : ℕ) (f : d ≡ getD s 2 0) (more : 2 < length s) where
+        pub two-behind : d < 128 → within ((b - 128) * 128 + d) form 3 ≡ numbered form s
+        unfolding numbered
+        two-behind k = simp (lt-leb (length s) 1, ← e, le-ltb b 128, ne-eqb b 128, lt-leb (length s) 2, ← f, lt-ltb d 128)
+
+        pub longer-run : 128 ≤ d → IV.IllFormed ≡ numbered form s
+        unfolding numbered
+        longer-run k = simp (lt-leb (length s) 1, ← e, le-ltb b 128, ne-eqb b 128, lt-leb (length s) 2, ← f, le-ltb d 128)
 
 module _ (number form : ℕ) where
   pub numbers-1 : number < 31 → value 1 ((128 + 32 * form + number) % 256) 0 0 ≡ fieldOf (identifier number form)

@@ -4,7 +4,7 @@ ghost use mathlib.Core.Path.{_≡_};
 ghost use Prim.Native.Nat.{_%_, _<_};
 ghost use Rattle.element.specs.Encoded.{fieldOf};
 ghost use Rattle.element.specs.Length.{shortest, fieldSize};
-ghost use Rattle.element.specs.Decoded.{lengthAt, identifierAt, numbered};
+ghost use Rattle.element.specs.Decoded.{lengthAt, identifierAt};
 ghost use Rattle.element.specs.Identifier.{identifier, identifierSize};
 
 pub enum Length {
@@ -128,7 +128,15 @@ pub fn length_field(value: u16) -> Field
 
 // ---- identifiers
 
-// The identifier at the head of what is left of the parent.
+// An identifier that was read, and how many octets it takes.
+fn is(number: u16, form: u16, size: usize) -> Identifier
+    ensures { λ r. ⌜ r ≡ Identifier.Is number form size ⌝ }
+{
+    Identifier::Is { number, form, size }
+}
+
+// The identifier at the head of what is left of the parent: class bits 10, the bit of value 32 for a constructor, and a
+// number in one of three sizes.
 pub fn read_identifier(rest: &[u8]) -> Identifier
     ensures { λ r. ⌜ r ≡ identifierAt (now (rest .entry)) ⌝ }
 {
@@ -136,57 +144,39 @@ pub fn read_identifier(rest: &[u8]) -> Identifier
         return Identifier::IllFormed;
     }
     let lead = double(rest[0]);
-    if lead < 0x80 {
-        return Identifier::IllFormed;
-    }
-    if 0xBF < lead {
+    if lead < 0x80 || 0xBF < lead {
         return Identifier::IllFormed;
     }
     let form = lead / 32 % 2;
+    // One octet, 0 to 30: the low five bits.
     let number = lead % 32;
     if number < 31 {
-        return Identifier::Is {
-            number,
-            form,
-            size: 1,
-        };
+        return is(number, form, 1);
     }
-    scan(rest, form)
-}
-
-// The number that follows an identifier octet whose low five bits are all ones: seven bits an octet, high first, the
-// top bit set on all but the last.
-fn scan(rest: &[u8], form: u16) -> Identifier
-    ensures { λ r. ⌜ r ≡ numbered form (now (rest .entry)) ⌝ }
-{
-    let mut number: u16 = 0;
-    let mut at: usize = 1;
-    'octets: while at < 3 {
-        if rest.len() <= at {
+    // Two octets, 31 to 127: all ones, and an octet with the top bit clear.
+    if rest.len() <= 1 {
+        return Identifier::IllFormed;
+    }
+    let second = double(rest[1]);
+    if second < 0x80 {
+        if second < 31 {
             return Identifier::IllFormed;
         }
-        let octet = double(rest[at]);
-        if octet < 128 {
-            number = number * 128 + octet;
-            if number < 31 {
-                return Identifier::IllFormed;
-            }
-            if 16383 < number {
-                return Identifier::TooLarge;
-            }
-            return Identifier::Is {
-                number,
-                form,
-                size: at + 1,
-            };
-        }
-        number = number * 128 + (octet - 128);
-        if number == 0 {
-            return Identifier::IllFormed;
-        }
-        at = at + 1;
+        return is(second, form, 2);
     }
-    Identifier::IllFormed
+    // Three octets, 128 to 16,383: all ones, then seven bits of each, high first; no leading 80 and no longer run.
+    if second == 0x80 || rest.len() <= 2 {
+        return Identifier::IllFormed;
+    }
+    let third = double(rest[2]);
+    if 0x7F < third {
+        return Identifier::IllFormed;
+    }
+    let number = (second - 0x80) * 128 + third;
+    if 16383 < number {
+        return Identifier::TooLarge;
+    }
+    is(number, form, 3)
 }
 
 // How many octets the identifier of a number takes, in either form.
