@@ -164,7 +164,7 @@ pub fn read_identifier(rest: &[u8]) -> Identifier
         }
         return is(second, form, 2);
     }
-    // Three octets, 128 to 16,383: all ones, then seven bits of each, high first; no leading 80 and no longer run.
+    // Three octets, 128 to 16,383: all ones, and seven bits each of two, high first; no leading 80 and no longer run.
     if second == 0x80 || rest.len() <= 2 {
         return Identifier::IllFormed;
     }

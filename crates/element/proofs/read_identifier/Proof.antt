@@ -1,4 +1,4 @@
--- `element::read_identifier` meets its contract: each way out is one law of `Ways`.
+-- `element::read_identifier` meets its contract: each way out is by laws of `Ways`.
 -- Assumes nothing.
 use borrow.Author.Needs.{needs}
 use borrow.Author.Tests.{ltb-true, ltb-false, leb-true, leb-false}
