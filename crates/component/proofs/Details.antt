@@ -21,18 +21,22 @@ use Rattle.component.proofs.Complete.{longer, complete}
 use Rattle.component.proofs.Parts.{octets-between}
 use Rattle.component.proofs.Typing.{of-each, most-two}
 
+-- a refusal's number: an octet, not 0, which is an acceptance, and not 18, which has no sense
+abbrev pub Given : (number : ℕ) → Type 0
+Given n = (0 < n) × (n < 256) × (n ≡ 18 → ⊥)
+
 -- `at` octets stand before these
 abbrev pub Listed : (at : ℕ) → Octets → (number detail : ℕ) → Type 0
-Listed at s n d = (0 < n) × (n < 256) × (d ≤ at + length s)
+Listed at s n d = Given n × (d ≤ at + length s)
 
 pub unheld : {head s : Octets} {at n d : ℕ} → Unheld component head at s n d → Listed at s n d
 unheld {head} (no-field s h) = omega (arith, length-append head s)
 unheld (overrun rest f h) = omega arith
 
-pub unfound : {octet number at n d : ℕ} {s : Octets} → 0 < number → number < 256 → Unfound component octet number at s n d → Listed at s n d
-unfound h k ended = omega arith
-unfound h k (other f) = omega arith
-unfound h k (Unfound.unheld u) = unheld u
+pub unfound : {octet number at n d : ℕ} {s : Octets} → Given number → Unfound component octet number at s n d → Listed at s n d
+unfound g ended = omega arith
+unfound g (other f) = omega arith
+unfound g (Unfound.unheld u) = unheld u
 
 left-over : {head s : Octets} {at n d : ℕ} → LeftOver component head at s n d → Listed at s n d
 left-over (left {e = e} a rest w) = omega (arith, length-append e (a ∷ rest))
@@ -44,25 +48,25 @@ in-set (InSet.unheld i u) = unheld u
 in-set (InSet.later {e = e} {rest = rest} i w f) = omega (arith, length-append e rest, in-set f)
 
 no-set : {at n d : ℕ} {s : Octets} → NoSet at s n d → Listed at s n d
-no-set (NoSet.unfound f) = unfound (omega arith) (omega arith) f
+no-set (NoSet.unfound f) = unfound (omega arith) f
 no-set (NoSet.left-over f) = left-over f
 no-set (NoSet.inside {field = field} {set = set} l f) = omega (arith, length-append field set, in-set f)
 
 -- what refuses a code
 abbrev Refusable : Coding → Type 0
 Refusable uncoded = Unit
-Refusable (coded octet number family size) = (0 < number) × (number < 256)
+Refusable (coded octet number family size) = Given number
 
 refusable : (kind : ℕ) → Refusable (codingOf kind)
 refusable = of-each (λ f. Refusable (f .coding)) (omega arith) tt (omega arith) (omega arith)
 
 no-code : {coding : Coding} {at n d : ℕ} {s : Octets} → Refusable coding → NoCode at coding s n d → Listed at s n d
-no-code q (NoCode.unfound f) = unfound (q .0) (q .1) f
+no-code q (NoCode.unfound f) = unfound q f
 no-code q (NoCode.another rest w h) = omega arith
 no-code q (NoCode.behind {e = e} {rest = rest} w f) = omega (arith, length-append e rest, no-set f)
 
 no-body : {kind at n d : ℕ} {s : Octets} → NoBody kind at s n d → Listed at s n d
-no-body (NoBody.unfound f) = unfound (omega arith) (omega arith) f
+no-body (NoBody.unfound f) = unfound (omega arith) f
 no-body (NoBody.sized rest w h) = omega arith
 no-body {kind} (NoBody.behind {i = i} {rest = rest} w a f) = omega (arith, length-append i rest, no-code (refusable kind) f)
 
@@ -71,7 +75,7 @@ whole (Whole.unheld u) = unheld u
 whole (Whole.left-over f) = left-over f
 whole (Whole.inside {field = field} {body = body} l f) = omega (arith, length-append field body, no-body f)
 
-pub listed : {n d : ℕ} {s : Octets} → Faulty n d s → (0 < n) × (n < 256) × (d ≤ 4096)
+pub listed : {n d : ℕ} {s : Octets} → Faulty n d s → Given n × (d ≤ 4096)
 listed Faulty.empty = omega arith
 listed (Faulty.long h) = omega arith
 listed (Faulty.untyped h k) = omega arith

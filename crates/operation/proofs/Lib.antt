@@ -24,6 +24,7 @@ pub mod Outcomes
 pub mod DraftingErrors
 pub mod Counts
 pub mod OnlyOne
+pub mod NoEighteen
 pub mod Again
 pub mod Model
 pub mod Truthful

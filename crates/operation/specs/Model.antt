@@ -4,7 +4,7 @@ use mathlib.Core.List.{List}
 use Prim.Native.Nat.{ℕ}
 use lib.ListN.{length}
 use Rattle.element.specs.Octets.{Octets, AreOctets}
-use Rattle.element.specs.Answer.{Answer}
+use Rattle.element.specs.Answer.{Answer, refused}
 use Rattle.element.specs.Output.{written, outputAfter}
 use Rattle.operation.specs.Reading.{reading, tableAfter}
 use Rattle.operation.specs.Writing.{writing}
@@ -30,3 +30,10 @@ unfoldable pub OnlyOne : Type 0
 OnlyOne = (r : Reader) (w : Writer) → Demands r w →
     ((s : Octets) (given : ℕ) (t : List ℕ) → AreOctets s → r s given t ≡ reader s given t)
     × ((o : Order) (out : Octets) → w o out ≡ writer o out)
+
+-- 18 was a parameter number over 16,383, which no octets say. It has no sense any more and gets no other: nothing that
+-- satisfies the demands refuses with it, in reading or in writing
+unfoldable pub NoEighteen : Type 0
+NoEighteen = (r : Reader) (w : Writer) → Demands r w →
+    ((s : Octets) (given : ℕ) (t : List ℕ) (d : ℕ) → AreOctets s → r s given t .answer ≡ refused 18 d → ⊥)
+    × ((o : Order) (out : Octets) (d : ℕ) → w o out .answer ≡ refused 18 d → ⊥)

@@ -25,5 +25,6 @@ pub mod Again
 pub mod Truthful
 pub mod Outcomes
 pub mod Packing
+pub mod NoEighteen
 pub mod Charts
 pub mod Excluded

@@ -49,12 +49,12 @@ in-sequence (InSequence.unheld u) = let (_, _, f) = renumbered u in omega (arith
 in-sequence (InSequence.later {o = o} {rest = rest} w f) = omega (arith, length-append o rest, in-sequence f)
 
 no-sequence : {at n d : ℕ} {s : Octets} → NoSequence at s n d → d ≤ at + length s
-no-sequence (NoSequence.unfound u) = let (_, _, f) = renumbered-too u in omega (arith, unfound (omega arith) (omega arith) f)
+no-sequence (NoSequence.unfound u) = let (_, _, f) = renumbered-too u in omega (arith, unfound (omega arith) f)
 no-sequence (NoSequence.left-over f) = left-over f
 no-sequence (NoSequence.inside {field = field} {contents = contents} l f) = omega (arith, length-append field contents, in-sequence f)
 
 no-ids : {kind at n d : ℕ} {s : Octets} → NoIds kind at s n d → d ≤ at + length s
-no-ids (NoIds.unfound u) = let (_, _, f) = renumbered-too u in omega (arith, unfound (omega arith) (omega arith) f)
+no-ids (NoIds.unfound u) = let (_, _, f) = renumbered-too u in omega (arith, unfound (omega arith) f)
 no-ids (NoIds.sized rest w h) = omega arith
 no-ids (NoIds.behind {i = i} {rest = rest} w h f) = omega (arith, length-append i rest, no-sequence f)
 
@@ -66,7 +66,7 @@ unpackaged (Unpackaged.inside {field = field} {body = body} h l f) = omega (arit
 
 -- ---- a component's own refusal, and 24
 module _ (s : Octets) (oct : AreOctets s) where
-  its-octets : {at : ℕ} (o rest : Octets) → Rest s at (o ++ rest) → AreOctets o
+  pub its-octets : {at : ℕ} (o rest : Octets) → Rest s at (o ++ rest) → AreOctets o
   its-octets {at} o rest r i =
       let n : at + length o - at ≡ length o = omega arith in
       let e : between at (at + length o) s ≡ o = rw (n, r .octets) (take-append-seam o rest) in

@@ -4,6 +4,7 @@ use mathlib.Core.Path.{_≡_}
 use mathlib.Core.List.{List}
 use lib.ListN.{length}
 use Rattle.element.specs.Octets.{Octets, AreOctets}
+use Rattle.element.specs.Answer.{refused}
 use Rattle.element.specs.Output.{written, outputAfter}
 use Rattle.operation.specs.Caller.{wrote}
 use Rattle.package.specs.Caller.{read, Reader, Order, Writer}
@@ -28,3 +29,9 @@ unfoldable pub OnlyOne : Type 0
 OnlyOne = (r : Reader) (w : Writer) → Demands r w →
     ((s : Octets) (specifiers : ℕ) (t : List ℕ) → AreOctets s → r s specifiers t ≡ reader s specifiers t)
     × ((o : Order) (out : Octets) → w o out ≡ writer o out)
+
+-- 18 has no sense here either: nothing that satisfies the demands refuses with it, in reading or in writing
+unfoldable pub NoEighteen : Type 0
+NoEighteen = (r : Reader) (w : Writer) → Demands r w →
+    ((s : Octets) (specifiers : ℕ) (t : List ℕ) (d : ℕ) → AreOctets s → r s specifiers t .answer ≡ refused 18 d → ⊥)
+    × ((o : Order) (out : Octets) (d : ℕ) → w o out .answer ≡ refused 18 d → ⊥)
