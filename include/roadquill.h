@@ -96,8 +96,8 @@ enum {
     ROADQUILL_ENTRY = 16,       /* writer: number over 16,383, form over 1, or contents outside the source;
                                    the lowest such entry */
     ROADQUILL_OUTPUT = 17,      /* writer: output too short; octets needed. So for an error's name */
-    ROADQUILL_NUMBER = 18,      /* reader: parameter number over 16,383; its place (two octets hold no
-                                   such number and a longer run is 9, so no reading gives it) */
+                                /* 18 is no answer, of a reader or of a writer, and never will be: it was
+                                   a parameter number over 16,383, which no octets say */
     ROADQUILL_LEFT_OVER = 20,   /* reader: octets left over behind an element that has to end with its
                                    parent, the component or F2; the first octet left */
     ROADQUILL_PROBLEM = 21,     /* reader: wrong error or problem element or its length: an ERROR's not D4

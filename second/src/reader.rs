@@ -209,8 +209,7 @@ fn read_run(component: &[u8], place: usize, end: usize) -> Result<(u16, usize), 
 }
 
 /// A run of more than two octets. The paper's form allows no longer run, so
-/// it is ill formed (9), and as 18 is asked after 9, no 18 is left: two
-/// octets cannot hold a number over 16,383.
+/// it is ill formed (9), and two octets hold no number over 16,383.
 fn long_run(run: &[u8], place: usize) -> Refusal {
     let ends = run.iter().any(|octet| *octet < 0x80);
     Refusal::new(9, place, if ends { "long run" } else { "cut" })

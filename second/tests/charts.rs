@@ -479,9 +479,28 @@ fn identifiers() {
     for text in ill_formed {
         assert_eq!(refused(&set(text), 26), (9, 7), "{text}");
     }
-    // A longer run that ends is 9 as well, so that nothing is left for 18.
+    // A longer run that ends is 9 as well.
     assert_eq!(refused(&set("9F 81 80 00 00"), 26), (9, 7));
     assert_eq!(refused(&set("BF FF FF FF 7F 00"), 26), (9, 7));
+}
+
+/// All that three octets can say: 128 to 16,383, each once and in order, and
+/// the rest is 9. So no number is over 16,383, and there is no 18.
+#[test]
+fn three_octets_say_128_to_16383() {
+    for (lead, form) in [(0x9F, 0), (0xBF, 1)] {
+        let mut numbers = Vec::new();
+        for [high, low] in (0x8000..=0xFFFF_u16).map(u16::to_be_bytes) {
+            let component = [0xEA, 9, 0xCF, 1, 5, 0xF2, 4, lead, high, low, 0];
+            let (answer, table) = read_chart(&component, 26);
+            match answer {
+                Ok(_) => numbers.push([table[0], table[1]]),
+                Err(refusal) => assert_eq!((refusal.number, refusal.detail), (9, 7)),
+            }
+        }
+        let all = (128..=16383).map(|number| [number, form]);
+        assert!(numbers.into_iter().eq(all));
+    }
 }
 
 /// An INVOKE without ID octets, whose parameters begin at 10.

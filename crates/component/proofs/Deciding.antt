@@ -153,7 +153,6 @@ next room at (a ∷ s) o again = go (identifierAt (a ∷ s)) refl
         then (rw p at (hold component (take k t) at (drop k t) (behind o (take k t) (drop k t) (sym p)))) (λ n d u. InSet.unheld f u) λ h.
         then (again (at + length (h .e)) (h .rest) (behind o (h .e) (h .rest) (h .is))) (λ n d i. later f h i) λ s. fine (one-more f h s)
     go IV.IllFormed e = fault (InSet.no-identifier (not-identified e))
-    go IV.TooLarge e = absurd (Identifier.never-too-large t o e)
 
 parameters : (room at : ℕ) (t : Octets) → AreOctets t → Sets room at t
 parameters zero at [] o = fine nothing

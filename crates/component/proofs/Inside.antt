@@ -92,4 +92,3 @@ module _ (s : Octets) (o : AreOctets s) where
           let i = inside at g in
           rw (← z) (record { behind = omega arith; inside = omega arith })
       go IV.IllFormed q r = let z : _≡_ {A = ℕ} 0 1 = cc in absurd (omega arith)
-      go IV.TooLarge q r = let z : _≡_ {A = ℕ} 0 1 = cc in absurd (omega arith)

@@ -41,7 +41,6 @@ ill-formed {s} o h = go (identifierAt s) refl
     go : (i : I.Identifier) → identifierAt s ≡ i → i ≡ IV.IllFormed
     go (IV.Is n f k) e = absurd (h n f (take k s) (drop k s) (Identifier.sound s o e .0) (sym (take-append-drop k s)))
     go IV.IllFormed e = refl
-    go IV.TooLarge e = absurd (Identifier.never-too-large s o e)
 
 module _ (s : Octets) where
   -- `t` is what is left from `at` on

@@ -168,7 +168,6 @@ module _ (pre c : Octets) where
       let p : n + at + octets ≡ n + (at + octets) = omega arith in
       rw p (then (contents-on at (at + octets) end) λ x y e. both (rw (e .is, less-on n (x .end) (x .start)) refl))
   parameter-on at end IV.IllFormed = stop (there refl)
-  parameter-on at end IV.TooLarge = stop (there refl)
 
   parameterAt-on : (at end : ℕ) → On n (By (entryOn n)) (parameterAt c at end) (parameterAt s (n + at) (n + end))
   unfolding parameterAt

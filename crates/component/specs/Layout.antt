@@ -120,7 +120,6 @@ parameter s at end (IV.Is number form octets) = do
   x ← contents s at (at + octets) end
   accepted (record { number = number; form = form; place = at; start = x .start; size = sizeOf x })
 parameter s at end IV.IllFormed = refused 9 at
-parameter s at end IV.TooLarge = refused 18 at
 
 unfoldable pub parameterAt : Octets → (at end : ℕ) → Answer Entry
 parameterAt s at end = parameter s at end (identifierAt (between at end s))

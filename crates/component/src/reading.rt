@@ -360,10 +360,6 @@ fn parameter_at(s: &[u8], at: usize, end: usize) -> Parameter
             number: 9,
             detail: at as u32,
         },
-        Identifier::TooLarge => Parameter::Refused {
-            number: 18,
-            detail: at as u32,
-        },
     }
 }
 

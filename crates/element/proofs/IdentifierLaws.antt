@@ -11,7 +11,7 @@ use Rattle.element.specs.declared.Identifier as I
 use Rattle.element.specs.declared.Identifier.the-variants as IV
 use Rattle.element.specs.Octets.{Octets, AreOctets}
 use Rattle.element.specs.Identifier.{IdentifierField, only, identifier, identifierSize}
-use Rattle.element.specs.Decoded.{identifierAt, numbered, within}
+use Rattle.element.specs.Decoded.{identifierAt, numbered}
 use Rattle.element.proofs.Reading.{less, most, same, first, first-two, first-three, Small, small as each-small}
 
 -- an identifier by its size, and back
@@ -75,16 +75,15 @@ small number e =
 
 pub complete : {number form : ℕ} {field : Octets} → IdentifierField number form field → (rest : Octets) →
     identifierAt (field ++ rest) ≡ IV.Is number form (length field)
-unfolding numbered within
+unfolding numbered
 complete (only number form h k) rest =
     let b = 0x80 + number / 128 in
     let c = number % 128 in
     let l = suc (suc (length rest)) in
     let e : (b - 0x80) * 128 + c ≡ number = omega arith in
-    let inside = le-ltb 16383 number h in
     by-size (λ f. identifierAt (f ++ rest) ≡ IV.Is number form (length f)) number form
     (λ i. brief k i rest)
-    (λ i j. long k (number ∷ rest) ∙ simp (lt-leb l 1 (omega arith), lt-ltb number 128, le-ltb number 31, inside))
+    (λ i j. long k (number ∷ rest) ∙ simp (lt-leb l 1 (omega arith), lt-ltb number 128, le-ltb number 31))
     (λ i. long k (b ∷ c ∷ rest) ∙ simp (
       lt-leb (suc l) 1 (omega arith),
       le-ltb b 128 (omega arith),
@@ -92,23 +91,16 @@ complete (only number form h k) rest =
       lt-leb (suc l) 2 (omega arith),
       lt-ltb c 128 (omega arith),
       e,
-      le-ltb number 31 (omega arith),
-      inside,
     ))
 
 pub read-back : (number form : ℕ) → number ≤ 16383 → form ≤ 1 → (rest : Octets) →
     identifierAt (identifier number form ++ rest) ≡ IV.Is number form (length (identifier number form))
 read-back number form h k rest = complete (only number form h k) rest
 
--- what there is to read: no number is too large
+-- what there is to read: in three octets too no number is over 16,383
 data Read (s : Octets) : I.Identifier → Type 0 where
   ill-formed : Read s IV.IllFormed
   found : {number form : ℕ} (k : ℕ) → take k s ≡ identifier number form → number ≤ 16383 → form ≤ 1 → k ≤ length s → Read s (IV.Is number form k)
-
-in-range : {s : Octets} {number form k : ℕ} → (31 ≤ number → number ≤ 16383 → Read s (IV.Is number form k)) → number ≤ 16383 →
-    Read s (within number form k)
-unfolding within
-in-range {s} {number} p h = less (Read s) (λ _. ill-formed) λ a. less (Read s) {x = 16383} {y = number} (λ b. absurd (omega arith)) (p a)
 
 module _ (s : Octets) (o : AreOctets s) where
   read-numbered : getD s 0 0 / 64 ≡ 2 → 31 ≤ getD s 0 0 % 32 → Read s (numbered (getD s 0 0 / 32 % 2) s)
@@ -116,10 +108,10 @@ module _ (s : Octets) (o : AreOctets s) where
   read-numbered e l =
       let R = Read s in
       most R (λ _. ill-formed) λ i.
-      less R (λ b. in-range (λ m n. found 2 (first-two s i ∙ two e l m b) n (omega arith) i) (omega arith)) λ b.
+      less R (λ b. less R (λ _. ill-formed) λ m. found 2 (first-two s i ∙ two e l m b) (omega arith) (omega arith) i) λ b.
       same R (λ _. ill-formed) λ f.
       most R (λ _. ill-formed) λ j.
-      less R (λ c. in-range (λ m n. found 3 (first-three s j ∙ three e l b f c) n (omega arith) j) (omega (arith, o 1))) (λ _. ill-formed)
+      less R (λ c. found 3 (first-three s j ∙ three e l b f c) (omega (arith, o 1)) (omega arith) j) (λ _. ill-formed)
 
   read : Read s (identifierAt s)
   unfolding identifierAt
@@ -140,13 +132,6 @@ taken {number = number} {form = form} {size = i} (found {number = m} {form = l} 
 pub sound : (s : Octets) → AreOctets s → {number form size : ℕ} → identifierAt s ≡ IV.Is number form size →
     IdentifierField number form (take size s) × (size ≤ length s)
 sound s o e = taken (read s o) e
-
-never : {s : Octets} {a : I.Identifier} → Read s a → a ≡ IV.TooLarge → ⊥
-never ill-formed e = let z : _≡_ {A = ℕ} 0 1 = cc in omega arith
-never (found k t b c h) e = let z : _≡_ {A = ℕ} 0 1 = cc in omega arith
-
-pub never-too-large : (s : Octets) → AreOctets s → identifierAt s ≡ IV.TooLarge → ⊥
-never-too-large s o e = never (read s o) e
 
 pub behind : (s t : Octets) → AreOctets s → {number form size : ℕ} → identifierAt s ≡ IV.Is number form size →
     identifierAt (take size s ++ t) ≡ IV.Is number form size

@@ -10,7 +10,7 @@ use Rattle.element.specs.declared.Identifier.the-variants as IV
 use Rattle.element.specs.declared.Field as F
 use Rattle.element.specs.Octets.{Octets}
 use Rattle.element.specs.Length.{shortest}
-use Rattle.element.specs.Decoded.{lengthAt, within, numbered, identifierAt}
+use Rattle.element.specs.Decoded.{lengthAt, numbered, identifierAt}
 use Rattle.element.specs.Identifier.{identifier}
 use Rattle.element.specs.Encoded.{fieldOf}
 
@@ -71,20 +71,6 @@ module _ (n : ℕ) where
 
 -- ---- the identifier
 
-module _ (number form size : ℕ) where
-  pub too-small : number < 31 → IV.IllFormed ≡ within number form size
-  unfolding within
-  too-small h = simp (lt-ltb number 31)
-
-  module _ (h : 31 ≤ number) where
-    pub too-large : 16383 < number → IV.TooLarge ≡ within number form size
-    unfolding within
-    too-large k = simp (le-ltb number 31, lt-ltb 16383 number)
-
-    pub in-range : number ≤ 16383 → IV.Is number form size ≡ within number form size
-    unfolding within
-    in-range k = simp (le-ltb number 31, le-ltb 16383 number)
-
 module _ (s : Octets) where
   pub no-octet : length s ≤ 0 → IV.IllFormed ≡ identifierAt s
   unfolding identifierAt
@@ -111,9 +97,13 @@ module _ (form : ℕ) (s : Octets) where
   none-behind h = simp (le-leb (length s) 1)
 
   module _ (b : ℕ) (e : b ≡ getD s 1 0) (some : 1 < length s) where
-    pub one-behind : b < 128 → within b form 2 ≡ numbered form s
+    pub below-31 : b < 31 → IV.IllFormed ≡ numbered form s
     unfolding numbered
-    one-behind h = simp (lt-leb (length s) 1, ← e, lt-ltb b 128)
+    below-31 h = simp (lt-leb (length s) 1, ← e, lt-ltb b 128 (omega arith), lt-ltb b 31)
+
+    pub one-behind : 31 ≤ b → b < 128 → IV.Is b form 2 ≡ numbered form s
+    unfolding numbered
+    one-behind h k = simp (lt-leb (length s) 1, ← e, lt-ltb b 128, le-ltb b 31)
 
     pub leading-80 : b ≡ 128 → IV.IllFormed ≡ numbered form s
     unfolding numbered
@@ -125,7 +115,7 @@ module _ (form : ℕ) (s : Octets) where
       cut-behind k = simp (lt-leb (length s) 1, ← e, le-ltb b 128, ne-eqb b 128, le-leb (length s) 2)
 
       module _ (d : ℕ) (f : d ≡ getD s 2 0) (more : 2 < length s) where
-        pub two-behind : d < 128 → within ((b - 128) * 128 + d) form 3 ≡ numbered form s
+        pub two-behind : d < 128 → IV.Is ((b - 128) * 128 + d) form 3 ≡ numbered form s
         unfolding numbered
         two-behind k = simp (lt-leb (length s) 1, ← e, le-ltb b 128, ne-eqb b 128, lt-leb (length s) 2, ← f, lt-ltb d 128)
 

@@ -19,18 +19,15 @@ lengthAt s =
     (if (leb (length s) 2) LV.Wrong (LV.Is (getD s 1 0 * 256 + getD s 2 0) 3))
     LV.Wrong)))
 
--- a number in the long form, of which `size` octets are read
-unfoldable pub within : (number form size : ℕ) → I.Identifier
-within number form size = if (ltb number 31) IV.IllFormed (if (ltb 16383 number) IV.TooLarge (IV.Is number form size))
-
--- the number behind an octet whose low five bits are all ones: in one octet or in two
+-- the number behind an octet whose low five bits are all ones: in one octet, 31 to 127, or in two, 128 to 16,383
 unfoldable pub numbered : (form : ℕ) → Octets → I.Identifier
 numbered form s =
     if (leb (length s) 1) IV.IllFormed
-    (if (ltb (getD s 1 0) 0x80) (within (getD s 1 0) form 2)
+    (if (ltb (getD s 1 0) 0x80)
+    (if (ltb (getD s 1 0) 31) IV.IllFormed (IV.Is (getD s 1 0) form 2))
     (if (eqb (getD s 1 0) 0x80) IV.IllFormed
     (if (leb (length s) 2) IV.IllFormed
-    (if (ltb (getD s 2 0) 0x80) (within ((getD s 1 0 - 0x80) * 128 + getD s 2 0) form 3)
+    (if (ltb (getD s 2 0) 0x80) (IV.Is ((getD s 1 0 - 0x80) * 128 + getD s 2 0) form 3)
     IV.IllFormed))))
 
 -- the identifier that stands at the head of what is left of the parent

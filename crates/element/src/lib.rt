@@ -18,8 +18,6 @@ pub enum Identifier {
     // A number, 0 primitive or 1 constructor, and how many octets it takes.
     Is { number: u16, form: u16, size: usize },
     IllFormed,
-    // A number over 16,383.
-    TooLarge,
 }
 
 // A field: how many octets it has, one to three, and each of them; 0 where there is none.
@@ -172,11 +170,7 @@ pub fn read_identifier(rest: &[u8]) -> Identifier
     if 0x7F < third {
         return Identifier::IllFormed;
     }
-    let number = (second - 0x80) * 128 + third;
-    if 16383 < number {
-        return Identifier::TooLarge;
-    }
-    is(number, form, 3)
+    is((second - 0x80) * 128 + third, form, 3)
 }
 
 // How many octets the identifier of a number takes, in either form.

@@ -2,7 +2,7 @@
 use mathlib.Core.Path.{_≡_, refl}
 use mathlib.Core.List.{[], _∷_, _++_}
 use Rattle.element.specs.Octets.{Octets}
-use Rattle.element.specs.Decoded.{lengthAt, within, numbered, identifierAt}
+use Rattle.element.specs.Decoded.{lengthAt, numbered, identifierAt}
 use Rattle.component.specs.Layout.{spanOf, contents, wanted, setAt, codedAt, codeAt, behindId, bodyAt, headFrom, headAt}
 use Rattle.component.specs.Layout.{parameter, parameterAt, parameters, layoutBehind, layoutAt, codeOctets}
 use Rattle.component.specs.Layout.{operationPlace}
@@ -34,7 +34,7 @@ lines =
     ∷ 0x32 ∷ 0x20 ∷ 0x32 ∷ 0x35 ∷ 0x20 ∷ 0x32 ∷ 0x20 ∷ 0x30 ∷ 0x20 ∷ 0x30 ∷ 0x0A ∷ []
 
 pub sample : printed components input ≡ headerLine ++ lines
-unfolding lengthAt within numbered identifierAt spanOf contents wanted setAt formatOf typed idFits codedAt codeAt
+unfolding lengthAt numbered identifierAt spanOf contents wanted setAt formatOf typed idFits codedAt codeAt
     behindId bodyAt headFrom headAt parameter parameterAt parameters layoutBehind layoutAt codeOctets operationPlace
     key numberOf members someOf among onLine asks named repeats occurs lastMark once met present doubled single
     judge countNamed operations find rowed rowOf itemOf operationOf toldCode operationIn countOther shownOf readingAt

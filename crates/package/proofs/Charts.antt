@@ -1,7 +1,7 @@
 -- The packages are read as the paper says.
 use mathlib.Core.Path.{_≡_, refl}
 use mathlib.Core.List.{map}
-use Rattle.element.specs.Decoded.{lengthAt, within, numbered, identifierAt}
+use Rattle.element.specs.Decoded.{lengthAt, numbered, identifierAt}
 use Rattle.component.specs.Layout.{spanOf, contents, wanted, setAt, codedAt, codeAt, behindId, bodyAt, headFrom, parameter, parameterAt, parameters, layoutBehind, layoutFrom, codeOctets, operationPlace}
 use Rattle.component.specs.Table.{numbers, tableWith, idOf, codeOf}
 use Rattle.component.specs.Types.{formatOf, typed, idFits}
@@ -20,5 +20,5 @@ use Rattle.package.specs.Told.{told}
 use Rattle.package.specs.Charts.{reads, expected, parts, worked}
 
 pub charts : map reads worked ≡ map expected worked
-unfolding lengthAt within numbered identifierAt spanOf contents wanted setAt formatOf typed idFits codedAt codeAt behindId bodyAt headFrom parameter parameterAt parameters layoutBehind layoutFrom codeOctets operationPlace numbers tableWith idOf codeOf operationOf toldCode operationIn rowed key numberOf members someOf among onLine asks named repeats occurs lastMark once met present doubled single judge countNamed operations find rowOf itemOf countOther shownOf readingFrom idSize packageType lines others lineOf column carrier sequenceAt idsAt opening componentsFrom allFrom readEach carries carriedIn few sequenceReading packageReading tablesWith tablesAfter told parts
+unfolding lengthAt numbered identifierAt spanOf contents wanted setAt formatOf typed idFits codedAt codeAt behindId bodyAt headFrom parameter parameterAt parameters layoutBehind layoutFrom codeOctets operationPlace numbers tableWith idOf codeOf operationOf toldCode operationIn rowed key numberOf members someOf among onLine asks named repeats occurs lastMark once met present doubled single judge countNamed operations find rowOf itemOf countOther shownOf readingFrom idSize packageType lines others lineOf column carrier sequenceAt idsAt opening componentsFrom allFrom readEach carries carriedIn few sequenceReading packageReading tablesWith tablesAfter told parts
 charts = refl

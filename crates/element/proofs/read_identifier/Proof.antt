@@ -3,12 +3,12 @@
 use borrow.Author.Needs.{needs}
 use borrow.Author.Tests.{ltb-true, ltb-false, leb-true, leb-false}
 use native.Mathlib.Omega.{arith}
-use Prim.Native.Nat.{ℕ, _+_, _*_, _-_, _/_, _%_}
+use Prim.Native.Nat.{ℕ, _/_, _%_}
 use mathlib.Core.Path.{_≡_, refl, _∙_}
 use mathlib.Core.Logic.{⊎-elim}
 use Rattle.element.specs.Octets.{Octets}
-use Rattle.element.specs.Decoded.{identifierAt, numbered, within}
-use Rattle.element.proofs.Ways.{no-octet, other-class, low-bits, all-ones, none-behind, too-small, too-large, in-range, one-behind, leading-80, cut-behind, two-behind, longer-run}
+use Rattle.element.specs.Decoded.{identifierAt, numbered}
+use Rattle.element.proofs.Ways.{no-octet, other-class, low-bits, all-ones, none-behind, below-31, one-behind, leading-80, cut-behind, two-behind, longer-run}
 use Rattle.element.proofs.read_identifier.Statement.{statement}
 use Rattle.element.proofs.read_identifier.Tie as tie
 
@@ -34,15 +34,11 @@ ones c = all-ones _ _ (omega arith) (omega arith) (omega (arith, ltb-false)) (om
 returns-4 : tie.Need-returns-4
 returns-4 c = none-behind _ _ (omega arith) ∙ ones (c .before)
 
--- two octets: whether the number is in range is left
-two : (c : tie.Then6) → let o = c .before .before .before .before in within (c .before .double2 .result) (form o) 2 ≡ identifierAt (octets o)
-two c = one-behind _ _ _ (omega arith) (omega arith) (omega arith) ∙ ones (c .before .before .before .before)
-
 returns-5 : tie.Need-returns-5
-returns-5 c = too-small _ _ _ (omega arith) ∙ two (c .before)
+returns-5 c = below-31 _ _ _ refl (omega arith) (omega arith) ∙ ones (c .before .before .before .before .before)
 
 returns-6 : tie.Need-returns-6
-returns-6 c = c .is2 .ensures ∙ in-range _ _ _ (omega arith) (omega arith) ∙ two (c .before .before)
+returns-6 c = c .is2 .ensures ∙ one-behind _ _ _ (omega arith) (omega arith) (omega arith) (omega arith) ∙ ones (c .before .before .before .before .before .before)
 
 returns-7 : tie.Need-returns-7
 returns-7 c =
@@ -52,15 +48,11 @@ returns-7 c =
 returns-8 : tie.Need-returns-8
 returns-8 c = longer-run _ _ _ refl (omega arith) (omega arith) (omega arith) _ refl (omega (arith, leb-false)) (omega arith) ∙ ones (c .before .before .before .before .before .before .before .before .before)
 
--- three octets: the same
-three : (c : tie.Else10) → let d = c .before .before .before .before .before .before in let o = d .before .before .before in within ((d .double2 .result - 128) * 128 + c .before .double3 .result) (form o) 3 ≡ identifierAt (octets o)
-three c = two-behind _ _ _ (omega arith) (omega arith) (omega arith) (omega arith) _ (omega arith) (omega (arith, leb-false)) (omega arith) ∙ ones (c .before .before .before .before .before .before .before .before .before)
-
 returns-9 : tie.Need-returns-9
-returns-9 c = too-large _ _ _ (omega arith) (omega arith) ∙ three (c .before)
-
-returns-10 : tie.Need-returns-10
-returns-10 c = c .is3 .ensures ∙ in-range _ _ _ (omega arith) (omega arith) ∙ three (c .before .before)
+returns-9 c =
+    c .is3 .ensures
+    ∙ two-behind _ _ _ (omega arith) (omega arith) (omega arith) (omega arith) _ (omega arith) (omega (arith, leb-false)) (omega arith)
+    ∙ ones (c .before .before .before .before .before .before .before .before .before .before)
 
 pub read-identifier-spec : {M : Type 1} → statement M
 read-identifier-spec =
@@ -80,6 +72,5 @@ read-identifier-spec =
     (λ c. search needs) (λ c κs. search needs)
     returns-8
     (λ c. search needs) (λ c. search needs)
-    returns-9
     (λ c κs. search needs)
-    returns-10)
+    returns-9)

@@ -38,10 +38,6 @@ returns-3 : tie.Need-returns-3
 unfolding parameterAt parameter
 returns-3 c = simp (sym (c .before .before .read-identifier .ensures) ∙ c .enum-told .given .1)
 
-returns-4 : tie.Need-returns-4
-unfolding parameterAt parameter
-returns-4 c = simp (sym (c .before .before .read-identifier .ensures) ∙ c .enum-told2 .given .1)
-
 pub parameter-at-spec : {M : Type 1} → statement M
 parameter-at-spec =
     tie.close
@@ -51,8 +47,7 @@ parameter-at-spec =
     contents-at-requires
     (λ c. search needs)
     sub-t20
-    (λ c. search needs) (λ c. search needs) (λ c. search needs) (λ c. search needs) (λ c. search needs)
+    (λ c. search needs) (λ c. search needs) (λ c. search needs)
     returns
     returns-2
-    returns-3
-    returns-4)
+    returns-3)
