@@ -1,6 +1,6 @@
 -- The laws of the identifier: what is written is read back, what is read was written, and how long an identifier is.
 use Prim.Native.Nat.{ℕ, suc, _+_, _*_, _-_, _/_, _%_, _<_, _≤_}
-use mathlib.Core.Path.{_≡_, _∙_}
+use mathlib.Core.Path.{_≡_, ap, _∙_}
 use mathlib.Core.List.{[], _∷_, _++_}
 use lib.ListN.{length, take, getD}
 use lib.Seq.{length-take-le}
@@ -143,6 +143,15 @@ sizes (only number form h k) =
 
 pub bounded : {number form : ℕ} {field : Octets} → IdentifierField number form field → (number ≤ 16383) × (form ≤ 1)
 bounded (only number form h k) = (h, k)
+
+-- no run of three octets or more begins an identifier
+pub no-longer-run : {number form a b c : ℕ} {field s : Octets} (rest : Octets) → IdentifierField number form field → a % 32 ≡ 31 → 128 ≤ b → 128 ≤ c →
+    a ∷ b ∷ c ∷ s ≡ field ++ rest → ⊥
+no-longer-run {a = a} {b} {c} {s = s} rest (only number form h k) l m n =
+    by-size (λ f. a ∷ b ∷ c ∷ s ≡ f ++ rest → ⊥) number form
+    (λ i e. omega (arith, ap (λ t. getD t 0 0) e))
+    (λ _ i e. omega (arith, ap (λ t. getD t 1 0) e))
+    (λ _ e. omega (arith, ap (λ t. getD t 2 0) e))
 
 -- of what is read: 1 to 3 octets, all of them there, a number up to 16,383 and a form
 pub inside : (s : Octets) → AreOctets s → {number form size : ℕ} → identifierAt s ≡ IV.Is number form size →

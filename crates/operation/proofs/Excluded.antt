@@ -1,5 +1,5 @@
 -- What the paper's list shuts out: none of these satisfies the demands, since each differs from ours on one input.
-use Prim.Native.Nat.{ℕ, _+_, _<_, _≤_}
+use Prim.Native.Nat.{ℕ, _+_, _%_, _<_, _≤_}
 use mathlib.Core.Path.{_≡_, refl, sym, ap, subst, _∙_}
 use mathlib.Core.Bool.{true≢false}
 use mathlib.Core.List.{List, [], _∷_, _++_, append-nil, map}
@@ -14,6 +14,7 @@ use Rattle.element.specs.Answer.{Answer, accepted, refused}
 use Rattle.element.specs.Length.{LengthField, shortest, fieldSize}
 use Rattle.element.specs.Identifier.{IdentifierField, identifier, identifierSize}
 use Rattle.element.proofs.Reading.{small}
+use Rattle.element.proofs.IdentifierLaws.{no-longer-run}
 use Rattle.component.specs.Table.{Entry, width, tableSize, tableWith, held, heldFrom, parameterOf, idOctets, writtenCode, componentOf}
 use Rattle.component.specs.Grammar.{Parameter, Component, Element, Coded, Laid}
 use Rattle.component.specs.Shortest.{Shortest}
@@ -289,6 +290,11 @@ module _ (r : Reader) (w : Writer) (d : Demands r w) where
 
     pub ended-before-the-set : BehindTheCode [] 25 0
     ended-before-the-set = behind-the-code 0 (λ at. subst (λ d. NoSet at [] 25 d) (sym (add-zero at)) (NoSet.unfound ended))
+
+    -- a number over 16,383 would take a longer run: of the set's first parameter that is 9 at its place
+    pub longer-run-is-9 : (a b c : ℕ) {sized : Octets} (rest : Octets) → let set = a ∷ b ∷ c ∷ rest in LengthField (length set) sized →
+        a % 32 ≡ 31 → 128 ≤ b → 128 ≤ c → BehindTheCode (0xF2 ∷ (sized ++ set)) 9 (1 + length sized)
+    longer-run-is-9 a b c rest m h k l = behind-the-code _ (λ at. NoSet.inside m (InSet.no-identifier λ number form head s i. no-longer-run s i h k l))
 
   -- ---- padded lengths
   pub leading-zero-taken : r padded 4 zeros ≡ read (accepted (record { kind = 0xEA; id = record { count = 1; first = 5; second = 0 }; code = record { first = 4; second = 0 }; all = 1; named = 1; other = 0 })) (5 ∷ 0 ∷ 16 ∷ 0 ∷ 12 ∷ replicate 315 0)
