@@ -24,7 +24,6 @@ pub mod Outcomes
 pub mod DraftingErrors
 pub mod Counts
 pub mod OnlyOne
-pub mod NoEighteen
 pub mod Again
 pub mod Model
 pub mod Truthful
@@ -32,4 +31,5 @@ pub mod Charts
 pub mod Excluded
 pub mod Shift
 pub mod Packing
+pub mod NoEighteen
 pub mod Inside

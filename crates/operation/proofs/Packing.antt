@@ -14,7 +14,7 @@ use Rattle.element.proofs.Reading.{small}
 use Rattle.component.specs.Grammar.{Parameter, Component}
 use Rattle.component.specs.Table.{idOf, codeOf}
 use Rattle.component.specs.Onward.{keeps, answerOn}
-use Rattle.component.proofs.Details.{listed, stands-in, id-octets, code-octets, two-octets, operation-in, needed-most}
+use Rattle.component.proofs.Details.{Given, listed, stands-in, id-octets, code-octets, two-octets, operation-in, needed-most}
 use Rattle.component.proofs.Typing.{two-at-most}
 use Rattle.operation.specs.Row.{Row, Line, Item, key, numberOf, asks}
 use Rattle.operation.specs.Rows.{Operation, operations}
@@ -115,7 +115,7 @@ no-line (First.later n f) e = omega (arith, ap length e)
 
 -- a refusal that fits behind other octets too: its detail is a place, an entry or a number
 abbrev pub Small : (number detail : ℕ) → Type 0
-Small n d = (0 < n) × (n < 256) × (d < 65536)
+Small n d = Given n × (d < 65536)
 
 -- a fault of a run against its row fits, where the marks do
 row-fits : {kind specifier : ℕ} {row : Row} {xs : List Item} {n d : ℕ} → RowFor kind specifier row →
@@ -124,6 +124,13 @@ row-fits r marks (again before x behind e o n g t) = omega (arith, marks x (rw e
 row-fits (in-the-book _ r) marks (missing {l} o f) = omega (arith, ltb-true (asks l) 65536 (of-all asks-few (first-in f) (of-all row-few r all-few)))
 row-fits (unasked _) marks (missing o f) = absurd (no-line f refl)
 row-fits r marks (both {x = x} o e f y) = omega (arith, marks x (last-in y))
+
+pub refusal-small : {s : Octets} {given : ℕ} {t : List ℕ} {n d : ℕ} → ReaderRefuses s given t n d → Small n d
+unfolding itemOf
+refusal-small (ReaderRefuses.table k) = omega arith
+refusal-small (ReaderRefuses.fault k f) = omega (arith, listed f)
+refusal-small (ReaderRefuses.no-row k l e) = omega (arith, operation-in (l .laid))
+refusal-small (ReaderRefuses.misfit k l e f) = row-fits e (λ x m. let (y, i, p) = Memᴰ·of-map itemOf _ m in omega (arith, stands-in (l .laid) i, ap (λ x. x .mark) p)) f
 
 -- ---- every answer of ours fits
 module _ (s : Octets) (o : AreOctets s) (given : ℕ) (h : given < 256) (t : List ℕ) where
@@ -143,13 +150,6 @@ module _ (s : Octets) (o : AreOctets s) (given : ℕ) (h : given < 256) (t : Lis
       let code = told-octets (c .kind) (c .code) (code-octets o (r .laid-out)) in
       let (kind, _) = two-octets (r .laid-out .laid) in
       (small (toldOctets (tells given c row)) (omega (arith, kind, id 0, id 1, code 0, code 1)), two, few, all)
-
-  pub refusal-small : {n d : ℕ} → ReaderRefuses s given t n d → Small n d
-  unfolding itemOf
-  refusal-small (ReaderRefuses.table k) = omega arith
-  refusal-small (ReaderRefuses.fault k f) = omega (arith, listed f)
-  refusal-small (ReaderRefuses.no-row k l e) = omega (arith, operation-in (l .laid))
-  refusal-small (ReaderRefuses.misfit k l e f) = row-fits e (λ x m. let (y, i, p) = Memᴰ·of-map itemOf _ m in omega (arith, stands-in (l .laid) i, ap (λ x. x .mark) p)) f
 
   -- also behind so many other octets
   pub fits-behind : (n : ℕ) → n ≤ 4096 → (a : Answer Told) → reader s given t .answer ≡ a → ReadingFits (answerOn n (λ x. x) a)

@@ -18,10 +18,10 @@ use Rattle.component.specs.Faults.{LeftOver, left}
 use Rattle.component.specs.Onward.{keeps}
 use Rattle.component.proofs.Parts.{octets-between}
 use Rattle.component.proofs.Refusing.{Rest, behind}
-use Rattle.component.proofs.Details.{unheld, unfound}
+use Rattle.component.proofs.Details.{Given, unheld, unfound}
 use Rattle.component.proofs.Taken.{taken, passed}
 use Rattle.operation.specs.Caller as O
-use Rattle.operation.specs.Packed.{octets, octetAt, RefusalFits}
+use Rattle.operation.specs.Packed.{octets, octetAt}
 use Rattle.operation.proofs.Again.{inner}
 use Rattle.operation.proofs.Model.{demand1-ours}
 use Rattle.operation.proofs.Packing.{low, high, each, Small, refusal-small}
@@ -66,18 +66,18 @@ unpackaged (Unpackaged.inside {field = field} {body = body} h l f) = omega (arit
 
 -- ---- a component's own refusal, and 24
 module _ (s : Octets) (oct : AreOctets s) where
-  pub its-octets : {at : ℕ} (o rest : Octets) → Rest s at (o ++ rest) → AreOctets o
+  its-octets : {at : ℕ} (o rest : Octets) → Rest s at (o ++ rest) → AreOctets o
   its-octets {at} o rest r i =
       let n : at + length o - at ≡ length o = omega arith in
       let e : between at (at + length o) s ≡ o = rw (n, r .octets) (take-append-seam o rest) in
       rw e at (octets-between s oct at (at + length o) i)
 
   inside-small : {os : List Octets} {t : Octets} {at specifiers n d : ℕ} → Sequence os t → Rest s at t → OneRefused at os specifiers n d →
-      (0 < n) × (n < 256) × (d < 65536 + length s)
+      Given n × (d < 65536 + length s)
   inside-small {at = at} (Sequence.more {o = o} {rest = rest} w q) r (OneRefused.here {specifiers = specifiers} {n = n} {d = d} e) =
-      go (keeps n d) (refusal-small o (its-octets o rest r) (specifiers % 256) (omega arith) (replicate tableSize 0) (demand1-ours .reader o (specifiers % 256) (replicate tableSize 0) (its-octets o rest r) e .0))
+      go (keeps n d) (refusal-small (demand1-ours .reader o (specifiers % 256) (replicate tableSize 0) (its-octets o rest r) e .0))
     where
-      go : (b : Bool) → Small n d → (0 < n) × (n < 256) × (if b d (at + d) < 65536 + length s)
+      go : (b : Bool) → Small n d → Given n × (if b d (at + d) < 65536 + length s)
       go true h = omega arith
       go false h = omega (arith, r .ends)
   inside-small (Sequence.more {o = o} w q) r (OneRefused.later e f) = inside-small q (behind s o r) f
@@ -94,7 +94,7 @@ as-many at (o ∷ os) [] = omega arith
 as-many at (o ∷ os) (x ∷ xs) = omega (arith, as-many (at + length o) os xs)
 
 module _ (s : Octets) (specifiers : ℕ) (t : List ℕ) (oct : AreOctets s) where
-  refusal-fits : {n d : ℕ} → ReaderRefuses s specifiers t n d → RefusalFits n d
+  pub refusal-fits : {n d : ℕ} → ReaderRefuses s specifiers t n d → Given n × (d < 4294967296)
   refusal-fits (ReaderRefuses.no-table h) = omega arith
   refusal-fits (ReaderRefuses.empty h e) = omega arith
   refusal-fits (ReaderRefuses.long h k) = omega arith
@@ -125,7 +125,7 @@ module _ (s : Octets) (specifiers : ℕ) (t : List ℕ) (oct : AreOctets s) wher
     where
       go : (a : Answer Parcel) → reader s specifiers t .answer ≡ a → PackageFits (outlined a)
       go (accepted x) e = let (p, xs, h) = accepts-rightly s specifiers t oct e in rw e at (right-fits h)
-      go (refused n d) e = refusal-fits (refuses-rightly s specifiers t oct e .0)
+      go (refused n d) e = omega (arith, refusal-fits (refuses-rightly s specifiers t oct e .0))
 
 -- ---- and what fits comes back
 six : (x : Envelope) → octets (envelopeOctets x) ≡ octets (envelopeOctets x ++ (0 ∷ []))

@@ -3,10 +3,9 @@
 use borrow.Author.Needs.{needs}
 use borrow.Author.Tests.{ltb-true, ltb-false, leb-true, leb-false}
 use native.Mathlib.Omega.{arith}
-use Prim.Native.Nat.{ℕ, _/_, _%_}
+use Prim.Native.Nat.{_/_, _%_}
 use mathlib.Core.Path.{_≡_, refl, _∙_}
 use mathlib.Core.Logic.{⊎-elim}
-use Rattle.element.specs.Octets.{Octets}
 use Rattle.element.specs.Decoded.{identifierAt, numbered}
 use Rattle.element.proofs.Ways.{no-octet, other-class, low-bits, all-ones, none-behind, below-31, one-behind, leading-80, cut-behind, two-behind, longer-run}
 use Rattle.element.proofs.read_identifier.Statement.{statement}
@@ -21,14 +20,8 @@ returns-2 c = other-class _ _ refl (omega arith) (λ z. ⊎-elim (λ w. omega ar
 returns-3 : tie.Need-returns-3
 returns-3 c = c .is .ensures ∙ low-bits _ _ (omega arith) (omega arith) (omega (arith, ltb-false)) (omega arith)
 
--- where the low five bits are all ones: the octets, the form, and what is left to decide
-abbrev octets : tie.Else4 → Octets
-octets c = c .before .before .before .before .before .before .before .args .rest .now
-
-abbrev form : tie.Else4 → ℕ
-form c = c .before .before .before .double .result / 32 % 2
-
-ones : (c : tie.Else4) → numbered (form c) (octets c) ≡ identifierAt (octets c)
+-- where the low five bits are all ones
+ones : (c : tie.Else4) → let d = c .before .before .before in let s = d .before .before .before .before .args .rest .now in numbered (d .double .result / 32 % 2) s ≡ identifierAt s
 ones c = all-ones _ _ (omega arith) (omega arith) (omega (arith, ltb-false)) (omega arith)
 
 returns-4 : tie.Need-returns-4
