@@ -83,7 +83,7 @@ enum {
     ROADQUILL_MANY = 10,        /* more than 64 parameters; place of the 65th, writer 0 */
     ROADQUILL_NO_ROW = 11,      /* no row for this operation and component type; reader: the specifier's
                                    place in an INVOKE, else 0; writer 0. An ERROR and a REJECT have no
-                                   row, and 11 to 14 are not asked of them */
+                                   row, and 11 to 14 and 26 are not asked of them */
     ROADQUILL_AGAIN = 12,       /* a named parameter other than Digits occurs again; place of the earliest
                                    such second, writer its entry */
     ROADQUILL_MISSING = 13,     /* a mandatory parameter or choice is missing, or all members of a group;
@@ -110,7 +110,12 @@ enum {
     ROADQUILL_COUNT = 23,       /* no component in the package, or more than 8; place of E8, writer 0 */
     ROADQUILL_PACKAGE = 24,     /* Table 2 of X.S0004-540 does not let this package carry a component; place
                                    of the first such, writer its index from 0 */
-    ROADQUILL_ENDED = 25        /* reader: an element wanted where the parent has ended; that end */
+    ROADQUILL_ENDED = 25,       /* reader: an element wanted where the parent has ended; that end */
+    ROADQUILL_WRONG_SIZE = 26   /* a named parameter of fixed size has another: ESN 4 octets, MIN 5, MSCID 3,
+                                   InterMSCCircuitID, ServingCellID and TargetCellID 2, SystemMyTypeCode 1,
+                                   ChannelData none or 3; place of the earliest such, writer its entry.
+                                   Asked behind 12 and before 13; what the row does not name is of any
+                                   size */
 };
 
 /*

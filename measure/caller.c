@@ -126,20 +126,52 @@ static void put_code(unsigned type, unsigned code)
         put(0xD5), put(2), put(code & 0xFF), put(code >> 8);
 }
 
+/* The octets of a parameter of fixed size, which a row that names it asks for; of the others FREE. */
+#define FREE 999
+
+static size_t fixed_size(unsigned number)
+{
+    static const uint8_t sizes[][2] = {
+        { 9, 4 }, { 8, 5 }, { 21, 3 }, { 6, 2 }, { 2, 2 }, { 3, 2 }, { 22, 1 }, { 5, 0 }
+    };
+    size_t i;
+
+    for (i = 0; i < sizeof sizes / sizeof sizes[0]; i++)
+        if (sizes[i][0] == number)
+            return sizes[i][1];
+    return FREE;
+}
+
+/* The lengths of these parameters, and the octets of the set: `each`, and `extra` octets among those that may have
+ * them, one more for each and for the first of them what is left. */
+static size_t share(size_t *lengths, const unsigned *numbers, size_t count, int rowless, size_t each, size_t extra)
+{
+    size_t set = 0, some = 0, met = 0, i;
+
+    for (i = 0; i < count; i++)
+        some += rowless || fixed_size(numbers[i]) == FREE;
+    for (i = 0; i < count; i++) {
+        lengths[i] = rowless ? FREE : fixed_size(numbers[i]);
+        if (lengths[i] == FREE) {
+            lengths[i] = each + extra / some + (met < extra % some);
+            met++;
+        }
+        set += identifier_size(numbers[i]) + field(lengths[i]) + lengths[i];
+    }
+    return set;
+}
+
 /* A component of `total` octets (0: as many as it takes) with these numbers,
- * each with `each` octets of contents; what is left over to `total` goes to
- * the first parameters, one octet more each, or to the last. */
+ * each with `each` octets of contents or, where a row may hold it to one, of
+ * its fixed size; what is left over to `total` goes to the others. */
 static void component(unsigned type, unsigned code, const unsigned *numbers, size_t count,
                       size_t each, size_t total)
 {
-    size_t lengths[64], set = 0, body, i, extra = 0;
+    int rowless = type == ROADQUILL_ERROR || type == ROADQUILL_REJECT;
+    size_t lengths[64], set, body, i, extra = 0;
 
     for (;;) {
-        set = 0;
-        for (i = 0; i < count; i++) {
-            lengths[i] = each + extra / count + (i < extra % count);
-            set += identifier_size(numbers[i]) + field(lengths[i]) + lengths[i];
-        }
+        set = share(lengths, numbers, count, rowless, each, extra);
         body = 3 + code_size(type) + 1 + field(set) + set;
         if (total == 0 || 1 + field(body) + body >= total)
             break;

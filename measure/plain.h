@@ -17,6 +17,29 @@ enum { INVOKE = 0xE9, RESULT = 0xEA, ERROR = 0xEB, REJECT = 0xEC };
 
 #define ANSWER(number, detail) ((uint64_t)(number) | (uint64_t)(detail) << 8)
 
+/* Whether a row that names this parameter takes it with so many octets: its size may be fixed. */
+static inline int is_right_size(unsigned number, unsigned octets)
+{
+    switch (number) {
+    case 9:  /* ESN */
+        return octets == 4;
+    case 8:  /* MIN */
+        return octets == 5;
+    case 21:  /* MSCID */
+        return octets == 3;
+    case 6:  /* InterMSCCircuitID */
+    case 2:  /* ServingCellID */
+    case 3:  /* TargetCellID */
+        return octets == 2;
+    case 22:  /* SystemMyTypeCode */
+        return octets == 1;
+    case 5:  /* ChannelData */
+        return octets == 0 || octets == 3;
+    default:
+        return 1;
+    }
+}
+
 /* The call's values, the octets between ID and set, and the lengths of those,
  * of the set, the body and the whole. */
 struct writing {

@@ -299,11 +299,29 @@ static int has_group(const struct row *row, const uint16_t *seen)
     return row->group_count == 0;
 }
 
+/* What must occur and was not seen (13); of a choice the second member may occur instead of the first. */
+static int check_missing(struct reading *r, const struct row *row, const uint16_t *seen, size_t choice_second)
+{
+    size_t i;
+
+    for (i = 0; i < row->must_count; i++) {
+        if (seen[i] != 0)
+            continue;
+        if (row->named[i] == row->choice_first && choice_second != 0)
+            continue;
+        return refuse(r, 13, row->named[i]);
+    }
+    if (!has_group(row, seen))
+        return refuse(r, 13, row->named[row->must_count]);
+    return 1;
+}
+
 static int check_row(struct reading *r)
 {
     const struct row *row = find_row(r->kind->type, r->code[0]);
     uint16_t seen[8] = { 0 };  /* place of the first occurrence */
     size_t choice_first = 0, choice_second = 0;
+    size_t wrong = 0;  /* place of the first of wrong size; a repeat behind it is asked before */
     size_t i;
 
     if (row == NULL)
@@ -318,20 +336,17 @@ static int check_row(struct reading *r)
             return refuse(r, 12, one->place);
         seen[which] = one->place;
         r->named++;
+        if (wrong == 0 && !is_right_size(one->number, one->length))
+            wrong = one->place;
         if (row->choice_first != 0 && one->number == row->choice_first)
             choice_first = one->place;
         if (row->choice_first != 0 && one->number == row->choice_second)
             choice_second = one->place;
     }
-    for (i = 0; i < row->must_count; i++) {
-        if (seen[i] != 0)
-            continue;
-        if (row->named[i] == row->choice_first && choice_second != 0)
-            continue;
-        return refuse(r, 13, row->named[i]);
-    }
-    if (!has_group(row, seen))
-        return refuse(r, 13, row->named[row->must_count]);
+    if (wrong != 0)
+        return refuse(r, 26, wrong);
+    if (!check_missing(r, row, seen, choice_second))
+        return 0;
     if (choice_first != 0 && choice_second != 0)
         return refuse(r, 14, choice_first > choice_second ? choice_first : choice_second);
     return 1;

@@ -107,10 +107,23 @@ static int occurs(const struct item *item, const uint16_t *table, size_t entries
     return 0;
 }
 
+/* The first entry of wrong size that the row names, or `entries`. */
+static size_t find_wrong_size(const char *row, const uint16_t *table, size_t entries)
+{
+    for (size_t i = 0; i < entries; i++) {
+        const uint16_t *entry = table + ENTRY_NUMBERS * i;
+
+        if (entry[1] == 0 && !is_right_size(entry[0], entry[3]) && is_named(row, entry[0]))
+            return i;
+    }
+    return entries;
+}
+
 static uint64_t check_row(const char *row, const uint16_t *table, size_t entries)
 {
     struct item item;
     const char *text;
+    size_t wrong;
 
     if (row == NULL)
         return ANSWER(11, 0);
@@ -121,6 +134,9 @@ static uint64_t check_row(const char *row, const uint16_t *table, size_t entries
             && find_entry(table, i, number) < i)
             return ANSWER(12, i);
     }
+    wrong = find_wrong_size(row, table, entries);
+    if (wrong < entries)
+        return ANSWER(26, wrong);
     for (text = row; take_item(&text, &item);)
         if (item.must && !occurs(&item, table, entries))
             return ANSWER(13, item.members[0]);

@@ -1,10 +1,11 @@
 /*
  * A reader of one component, tuned by hand for x86-64: one walk decodes the
- * parameters, notes a bit for each register number that the row names, and
- * fills a local table, which is copied where all is accepted. What ./bench
- * holds the proved reader to. Numbers and details are those of the scope
- * paper, and the packed result is that of plain.c. Numbers of the table are
- * stored low octet first, as the machine has them.
+ * parameters, notes a bit for each register number that the row names, looks
+ * at the size of such a one, and fills a local table, which is copied where
+ * all is accepted. What ./bench holds the proved reader to. Numbers and
+ * details are those of the scope paper, and the packed result is that of
+ * plain.c. Numbers of the table are stored low octet first, as the machine has
+ * them.
  */
 #include "tuned.h"
 
@@ -42,6 +43,24 @@ static const struct row rows[] = {
       2, { 105, 116 }, 0, 0, 8, { BIT(8), 0, 0, BIT(242) | BIT(233) } },
     { { 0, BIT(105), BIT(153) }, 0, { 0 }, 0, 0, 0, { 0 } },
 };
+
+/* The octets of a parameter of fixed size, for each number that a row may name; ChannelData may also have three. */
+#define CHANNEL_DATA 5
+#define ANY 255
+#define ANY_8 ANY, ANY, ANY, ANY, ANY, ANY, ANY, ANY
+#define ANY_32 ANY_8, ANY_8, ANY_8, ANY_8
+
+static const uint8_t sizes[256] = {
+    ANY, ANY, 2, 2, ANY, 0, 2, ANY, 5, 4, ANY, ANY, ANY, ANY, ANY, ANY,
+    ANY, ANY, ANY, ANY, ANY, 3, 1, ANY, ANY_8,
+    ANY_32, ANY_32, ANY_32, ANY_32, ANY_32, ANY_32, ANY_32
+};
+
+/* Whether octets that are not those of the table are right all the same. */
+static inline int may_have(unsigned number, size_t octets)
+{
+    return sizes[number] == ANY || (number == CHANNEL_DATA && octets == 3);
+}
 
 /* One more than the place of its row: 0 where there is none. The empty row also serves there, and for an
  * ERROR and a REJECT, which have no row to ask for. */
@@ -101,6 +120,26 @@ static int any(const uint64_t *seen, const uint64_t *group)
     return ((seen[0] & group[0]) | (seen[1] & group[1]) | (seen[2] & group[2]) | (seen[3] & group[3])) != 0;
 }
 
+/* 12, or else 26, with its place: asked only where the walk has met a named one again or of a wrong size. */
+static __attribute__((noinline)) uint64_t again_or_wrong(const uint16_t *entry, size_t count, const uint64_t *names)
+{
+    uint64_t seen[4] = { 0 };
+    size_t wrong = 0;
+
+    for (; count > 0; count--, entry += ENTRY_NUMBERS) {
+        unsigned number = entry[0];
+
+        if (entry[1] != 0 || number > 255 || !(names[number / 64] & BIT(number)))
+            continue;
+        if (seen[number / 64] & BIT(number) && number != DIGITS)
+            return refusal(12, entry[4]);
+        seen[number / 64] |= BIT(number);
+        if (entry[3] != sizes[number] && !may_have(number, entry[3]) && wrong == 0)
+            wrong = entry[4];
+    }
+    return refusal(26, wrong);
+}
+
 /* 14: the place of the last entry before `entry` that is one of the choice; both are there. */
 static size_t both(const uint16_t *entry, const struct row *row)
 {
@@ -117,10 +156,10 @@ static inline __attribute__((always_inline)) size_t read_from(const uint8_t *oct
                                                               uint8_t specifier, uint16_t *entries, uint64_t *told)
 {
     uint64_t seen[4] = { 0 }, id = 0, code = specifier;
-    size_t at, element, length, i, id_count, count = 0, named = 0, again = 0, operation = 0;
+    size_t at, element, length, i, id_count, count = 0, named = 0, operation = 0;
     const struct row *row;
     const uint64_t *names;
-    unsigned type, which;
+    unsigned type, which, doubt = 0;
 
     type = octets[from];
     if (type < INVOKE || type > REJECT)
@@ -198,16 +237,25 @@ static inline __attribute__((always_inline)) size_t read_from(const uint8_t *oct
         entry[4] = (uint16_t)place;
         if (identifier < 256 && names[number / 64] & BIT(number)) {
             named++;
-            if (seen[number / 64] & BIT(number) && number != DIGITS && again == 0)
-                again = place;
+            /* each asked in two steps: the second is rare */
+            if (seen[number / 64] & BIT(number)) {
+                if (number != DIGITS)
+                    doubt = 1;
+            }
             seen[number / 64] |= BIT(number);
+            if (length != sizes[number]) {
+                if (!may_have(number, length))
+                    doubt = 1;
+            }
         }
         at = start + length;
     }
     if (which == 0)
         return refuse(told, 11, operation);
-    if (again != 0)
-        return refuse(told, 12, again);
+    if (doubt != 0) {
+        *told = again_or_wrong(entries, count, names);
+        return 0;
+    }
     for (i = 0; i < row->must_count; i++) {
         unsigned number = row->must[i];
 

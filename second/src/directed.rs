@@ -12,6 +12,7 @@ pub mod packages;
 mod padding;
 mod parts;
 mod row_cases;
+mod sizes;
 
 use crate::generate::draft::{identifier, Draft, Element, Forms, WITH_81, WITH_82};
 use crate::generate::Subject;
@@ -37,6 +38,7 @@ pub fn cases() -> Vec<Case> {
         order::cases(),
         limits::cases(),
         padding::cases(),
+        sizes::cases(),
     ];
     each_once(groups.into_iter().flatten())
 }
@@ -63,6 +65,7 @@ fn of_row(row: &'static Row) -> Vec<Case> {
     cases.push(names::of_no_octets(row));
     cases.extend(names::other_callers(row));
     cases.extend(names::not_asked(row));
+    cases.extend(sizes::of_row(row));
     cases
 }
 
@@ -71,18 +74,16 @@ fn cases_of(row: &'static Row, lists: &[List]) -> Vec<Case> {
     drafts.map(|draft| Case::of(&draft)).collect()
 }
 
-/// Contents of a size that the parameter may have, of octets that would read
-/// as parameters where a reader strays into them.
+/// Contents of a size that the parameter may have.
 fn parameter(one: Identifier) -> Element {
-    let count = match one.number {
-        5 => 0,
-        22 => 1,
-        2 | 3 | 6 => 2,
-        21 => 3,
-        9 => 4,
-        8 => 5,
-        number => usize::from(number % 4),
-    };
+    let sizes = rows::sizes(one.number);
+    let count = sizes.map_or(usize::from(one.number % 4), |sizes| sizes[0]);
+    of_size(one, count)
+}
+
+/// Contents of octets that would read as parameters where a reader strays
+/// into them.
+fn of_size(one: Identifier, count: usize) -> Element {
     Element::new(identifier(one.number, one.constructor), filling(count))
 }
 

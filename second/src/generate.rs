@@ -15,7 +15,7 @@ pub use read_cases::{read_case, ReadCase};
 pub use write_cases::{write_case, WriteCase};
 
 use crate::random::Random;
-use crate::rows::{self, Identifier, Row, DIGITS, ROWS};
+use crate::rows::{self, is_right_size, sizes, Identifier, Row, DIGITS, ROWS, SIZED};
 use crate::types::{self, Code, ComponentType, ERROR, INVOKE, REJECT, TYPES};
 
 /// Numbers at the edges of the three identifier forms, and others around the
@@ -147,11 +147,61 @@ fn draw_other(random: &mut Random, row: &Row) -> Drawn {
     }
 }
 
+/// Of a size that the row takes.
 fn draw_named(random: &mut Random, number: u16) -> Drawn {
+    let length = match sizes(number) {
+        Some(sizes) => random.pick(sizes),
+        None => draw_length(random),
+    };
     Drawn {
         number,
         constructor: false,
-        length: draw_length(random),
+        length,
+    }
+}
+
+/// Sizes around all the fixed ones, and a large one.
+pub(crate) const SIZES: [usize; 8] = [0, 1, 2, 3, 4, 5, 6, 200];
+
+/// A parameter of fixed size in either form, of any of these sizes: one that
+/// the row names, or as often any.
+fn draw_of_any_size(random: &mut Random, row: &Row) -> Drawn {
+    let mut numbers: Vec<u16> = SIZED.iter().map(|(number, _)| *number).collect();
+    let any = random.pick(&numbers);
+    numbers.retain(|number| row.names(Identifier::primitive(*number)));
+    if numbers.is_empty() || random.percent(50) {
+        numbers = vec![any];
+    }
+    Drawn {
+        number: random.pick(&numbers),
+        constructor: random.percent(25),
+        length: random.pick(&SIZES),
+    }
+}
+
+/// A primitive one of a size that is wrong where a row names it.
+fn draw_of_wrong_size(random: &mut Random) -> Drawn {
+    let number = random.pick(&SIZED).0;
+    Drawn {
+        number,
+        constructor: false,
+        length: draw_wrong_size(random, number),
+    }
+}
+
+/// A size that is wrong where a row names this one: mostly near the right
+/// one, sometimes one that agrees with it in the low octet, or at an edge of
+/// the length forms.
+fn draw_wrong_size(random: &mut Random, number: u16) -> usize {
+    loop {
+        let size = match random.below(20) {
+            0..=15 => random.pick(&SIZES),
+            16..=17 => 256 + random.pick(sizes(number).unwrap_or(&[0])),
+            _ => random.pick(&[7, 8, 127, 128, 255, 256]),
+        };
+        if !is_right_size(number, size) {
+            return size;
+        }
     }
 }
 
@@ -202,8 +252,14 @@ fn draw_some(random: &mut Random, group: &[u16]) -> Vec<u16> {
     members
 }
 
-/// As the row would often refuse it: some left out, some again.
+/// As the row would often refuse it: some of any size, some left out, some
+/// again.
 fn loosen(random: &mut Random, list: &mut Vec<Drawn>) {
+    for one in list.iter_mut() {
+        if random.percent(40) {
+            one.length = draw_length(random);
+        }
+    }
     while !list.is_empty() && random.percent(40) {
         list.remove(random.below(list.len()));
     }

@@ -289,14 +289,16 @@ fn two_octets(component: &[u8], contents: Contents) -> [u8; 2] {
     octets
 }
 
-/// Asks 11 to 14 and counts what the row names.
+/// Asks 11 to 14, and 26 behind 12, and counts what the row names.
 fn ask_row(frame: &Frame, specifier: u8, parameters: &[Parameter]) -> Result<usize, Refusal> {
     let place = frame.code.map_or(0, |code| code.start);
     let row =
         rows::find(frame.kind.octet, specifier).ok_or_else(|| Refusal::new(11, place, "row"))?;
     let list: Vec<Identifier> = parameters.iter().map(|one| one.identifier).collect();
-    row.check(&list).map_err(|fault| match fault {
+    let octets: Vec<usize> = parameters.iter().map(|one| one.contents.count()).collect();
+    row.check(&list, &octets).map_err(|fault| match fault {
         RowFault::Repeat(index) => Refusal::new(12, parameters[index].place, "again"),
+        RowFault::Size(index) => Refusal::new(26, parameters[index].place, "size"),
         RowFault::Missing(number) => Refusal::new(13, usize::from(number), "missing"),
         RowFault::Both(index) => Refusal::new(14, parameters[index].place, "both"),
     })?;

@@ -52,7 +52,7 @@ pub fn of_packages(reads: u64, writes: u64, seed: u64) -> String {
 /// A line for each number that is met, and one for each of its reasons.
 fn numbers(types: &Types, both: &[Counts; 2]) -> String {
     let mut text = heading(types);
-    for number in (0..=17).chain(20..=25) {
+    for number in (0..=17).chain(20..=26) {
         let of_number = |key: &Key| key.number == number;
         put_line(&mut text, types, &number.to_string(), both, of_number);
         for why in reasons(both, number) {

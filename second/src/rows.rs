@@ -1,4 +1,4 @@
-//! The operation rows and the questions asked of them (11 to 14).
+//! The operation rows and the questions asked of them (11 to 14, and 26).
 
 use crate::types::{INVOKE, RESULT};
 use std::slice;
@@ -58,6 +58,30 @@ pub static ROWS: [Row; 12] = [
     row(RESULT, 101, &[], &[105, 153]),
 ];
 
+/// The parameters of fixed size, in the paper's order, each with the counts of
+/// octets that it may have. They are the same in every row that names it.
+pub static SIZED: [(u16, &[usize]); 8] = [
+    (9, &[4]),
+    (8, &[5]),
+    (21, &[3]),
+    (6, &[2]),
+    (2, &[2]),
+    (3, &[2]),
+    (22, &[1]),
+    (5, &[0, 3]),
+];
+
+/// Nothing where any size is right.
+pub fn sizes(number: u16) -> Option<&'static [usize]> {
+    let sized = SIZED.iter().find(|(sized, _)| *sized == number);
+    sized.map(|(_, sizes)| *sizes)
+}
+
+/// Whether a row that names the parameter takes so many octets of it.
+pub fn is_right_size(number: u16, octets: usize) -> bool {
+    sizes(number).is_none_or(|sizes| sizes.contains(&octets))
+}
+
 /// An identifier as the rows see it: all named parameters are primitive, so
 /// the same number with the constructor bit is never named.
 #[derive(Clone, Copy, Debug, PartialEq, Eq)]
@@ -83,11 +107,12 @@ impl Identifier {
     }
 }
 
-/// The refusals 12, 13 and 14. Repeat and Both hold the index of the
-/// parameter in order of occurrence; the reader turns it into a place.
+/// The refusals 12, 26, 13 and 14. Repeat, Size and Both hold the index of
+/// the parameter in order of occurrence; the reader turns it into a place.
 #[derive(Debug, PartialEq, Eq)]
 pub enum RowFault {
     Repeat(usize),
+    Size(usize),
     Missing(u16),
     Both(usize),
 }
@@ -131,9 +156,11 @@ impl Row {
         list.iter().filter(|entry| self.names(**entry)).count()
     }
 
-    /// Asks 12, then 13, then 14.
-    pub fn check(&self, list: &[Identifier]) -> Result<(), RowFault> {
+    /// Asks 12, then 26, then 13, then 14; each of the whole list before the
+    /// next. The octets are those of each parameter's contents.
+    pub fn check(&self, list: &[Identifier], octets: &[usize]) -> Result<(), RowFault> {
         self.check_repeats(list)?;
+        self.check_sizes(list, octets)?;
         self.check_missing(list)?;
         self.check_choices(list)
     }
@@ -146,6 +173,16 @@ impl Row {
             }
         }
         Ok(())
+    }
+
+    /// What the row does not name is of any size, also where another row
+    /// names it.
+    fn check_sizes(&self, list: &[Identifier], octets: &[usize]) -> Result<(), RowFault> {
+        let wrong = |(one, octets): (&Identifier, &usize)| {
+            self.names(*one) && !is_right_size(one.number, *octets)
+        };
+        let earliest = list.iter().zip(octets).position(wrong);
+        earliest.map_or(Ok(()), |index| Err(RowFault::Size(index)))
     }
 
     /// A choice and a group give their first member's number.

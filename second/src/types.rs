@@ -41,7 +41,7 @@ pub struct ComponentType {
     pub id_octets: RangeInclusive<usize>,
     /// A RESULT has none.
     pub code: Option<CodeElement>,
-    /// Whether a row is asked, for 11 to 14 and for what is named.
+    /// Whether a row is asked, for 11 to 14 and 26 and for what is named.
     pub has_row: bool,
 }
 

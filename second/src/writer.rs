@@ -172,8 +172,11 @@ fn too_long(sizes: &Sizes) -> &'static str {
 fn ask_row(head: Head, list: &[Entry]) -> Result<(), Refusal> {
     let row = rows::find(head.kind, head.code[0]).ok_or_else(|| Refusal::new(11, 0, "row"))?;
     let identifiers: Vec<Identifier> = list.iter().map(|one| one.identifier).collect();
-    row.check(&identifiers).map_err(|fault| match fault {
+    let octets: Vec<usize> = list.iter().map(|one| one.contents.len()).collect();
+    let checked = row.check(&identifiers, &octets);
+    checked.map_err(|fault| match fault {
         RowFault::Repeat(index) => Refusal::new(12, index, "again"),
+        RowFault::Size(index) => Refusal::new(26, index, "size"),
         RowFault::Missing(number) => Refusal::new(13, usize::from(number), "missing"),
         RowFault::Both(index) => Refusal::new(14, index, "both"),
     })

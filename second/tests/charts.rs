@@ -246,7 +246,7 @@ fn packed_answers() {
     assert_eq!(octets_of(result, 26), [0, 0xEA, 0x05, 0, 26, 0, 0x80, 0x40]);
     assert_eq!(octets_of(ERROR, 4), [0, 0xEB, 0x05, 0, 0x81, 0, 0, 0x40]);
     assert_eq!(octets_of(REJECT, 4), [0, 0xEC, 0, 0, 1, 1, 0, 0]);
-    let two = "E9 10 CF 02 05 06 D1 02 09 25 F2 06 81 00 86 00 82 00";
+    let two = "E9 14 CF 02 05 06 D1 02 09 25 F2 0A 81 00 86 02 01 07 82 02 00 11";
     assert_eq!(
         octets_of(two, 4),
         [0, 0xE9, 0x05, 0x06, 0x25, 0, 0x83, 0x81]
@@ -518,19 +518,21 @@ fn registration(parameters: &str) -> String {
 
 #[test]
 fn choice() {
-    let rest = "89 00 95 00 91 00 96 00";
+    let rest = format!("{ESN} {MSCID} 91 00 {TYPE_CODE}");
     let with = |more: &str| registration(&format!("{rest} {more}"));
-    assert_eq!(accepted(&with("88 00"), 0).0.named, 5);
-    assert_eq!(accepted(&with("9F 81 72 00"), 0).0.named, 5);
+    assert_eq!(accepted(&with(MIN), 0).0.named, 5);
+    assert_eq!(accepted(&with(IMSI), 0).0.named, 5);
     assert_eq!(refused(&with(""), 0), (13, 8));
-    assert_eq!(refused(&with("88 00 9F 81 72 00"), 0), (14, 20));
-    assert_eq!(refused(&with("9F 81 72 00 88 00"), 0), (14, 22));
+    assert_eq!(refused(&with(&format!("{MIN} {IMSI}")), 0), (14, 33));
+    assert_eq!(refused(&with(&format!("{IMSI} {MIN}")), 0), (14, 30));
     // The constructor twin is another identifier.
-    assert_eq!(accepted(&with("88 00 BF 81 72 00"), 0).0.other, 1);
+    let twin = format!("{MIN} BF 81 72 00");
+    assert_eq!(accepted(&with(&twin), 0).0.other, 1);
     // 12 before 13, and 13 in row order before 14.
-    assert_eq!(refused(&registration("96 00 96 00"), 0), (12, 12));
-    let both = "89 00 95 00 91 00 88 00 9F 81 72 00";
-    assert_eq!(refused(&registration(both), 0), (13, 22));
+    let twice = format!("{TYPE_CODE} {TYPE_CODE}");
+    assert_eq!(refused(&registration(&twice), 0), (12, 13));
+    let both = format!("{ESN} {MSCID} 91 00 {MIN} {IMSI}");
+    assert_eq!(refused(&registration(&both), 0), (13, 22));
 }
 
 const PAGE: &str = "E9 19 CF 01 05 D1 02 09 20 F2 10 81 00 89 04 82 1A 2B 3C \
@@ -548,7 +550,8 @@ fn network_tmsi_is_named() {
     assert_eq!((answer.all, answer.named, answer.other), (4, 4, 0));
     assert_eq!(table[2 * ENTRY_NUMBERS..][..2], [233, 0]);
     // HandoffBack2 does not name it, so that it may occur again.
-    let back = invoke("25", "81 00 86 00 82 00 9F 81 69 00 9F 81 69 00");
+    let back = "81 00 86 02 01 07 82 02 00 11 9F 81 69 00 9F 81 69 00";
+    let back = invoke("25", back);
     let (answer, _) = accepted(&back, 0);
     assert_eq!((answer.all, answer.named, answer.other), (5, 3, 2));
     let named = ROWS
@@ -559,7 +562,10 @@ fn network_tmsi_is_named() {
         .eq([(0xE9, 0x20), (0xE9, 0x65)]));
 }
 
-const MIN: &str = "88 00";
+const MIN: &str = "88 05 21 43 65 87 09";
+const ESN: &str = "89 04 82 1A 2B 3C";
+const MSCID: &str = "95 03 00 0C 01";
+const TYPE_CODE: &str = "96 01 02";
 const IMSI: &str = "9F 81 72 00";
 const NETWORK_TMSI: &str = "9F 81 69 00";
 
@@ -568,7 +574,7 @@ const NETWORK_TMSI: &str = "9F 81 69 00";
 type Page = (&'static str, [(&'static str, u32); 2]);
 
 const PAGES: [Page; 2] = [
-    ("20", [("81 00", 1), ("89 00", 9)]),
+    ("20", [("81 00", 1), (ESN, 9)]),
     ("65", [("9F 69 00", 105), ("9F 74 00", 116)]),
 ];
 
@@ -616,14 +622,14 @@ fn none_of_a_group() {
         }
     }
     // What else a row names is not of the group, nor are near numbers.
-    let page_of = |more: &str| refused(&invoke("20", &format!("81 00 89 00 {more}")), 0);
-    assert_eq!(page_of("95 00 96 00 9F 20 00"), (13, 8));
+    let page_of = |more: &str| refused(&invoke("20", &format!("81 00 {ESN} {more}")), 0);
+    assert_eq!(page_of(&format!("{MSCID} {TYPE_CODE} 9F 20 00")), (13, 8));
     assert_eq!(
         page_of("9F 69 00 9F 72 00 9F 81 68 00 9F 81 6A 00"),
         (13, 8)
     );
-    let sms = "9F 69 00 9F 74 00 89 00 9F 82 69 00";
-    assert_eq!(refused(&invoke("65", sms), 0), (13, 8));
+    let sms = format!("9F 69 00 9F 74 00 {ESN} 9F 82 69 00");
+    assert_eq!(refused(&invoke("65", &sms), 0), (13, 8));
 }
 
 /// The constructor twin is another identifier: it is not named, it stands for
@@ -653,7 +659,7 @@ fn a_member_of_a_group_again() {
     for of in PAGES {
         let (specifier, [(first, _), (second, _)]) = of;
         let others = format!("{first} {second}").split_whitespace().count() as u32;
-        for (member, count) in [(MIN, 2), (IMSI, 4), (NETWORK_TMSI, 4)] {
+        for (member, count) in [(MIN, 7), (IMSI, 4), (NETWORK_TMSI, 4)] {
             assert_eq!(
                 refused(&page(of, member, member), 0),
                 (12, 10 + count + others)
@@ -662,7 +668,7 @@ fn a_member_of_a_group_again() {
             assert_eq!(refused(&page(of, &twice, ""), 0), (12, 10 + count));
             assert_eq!(refused(&invoke(specifier, &twice), 0), (12, 10 + count));
             let all = format!("{MIN} {IMSI} {NETWORK_TMSI}");
-            assert_eq!(refused(&page(of, &all, member), 0), (12, 20 + others));
+            assert_eq!(refused(&page(of, &all, member), 0), (12, 25 + others));
         }
         let again = format!("{first} {first} {second}");
         let place = 10 + first.split_whitespace().count() as u32;
@@ -672,8 +678,8 @@ fn a_member_of_a_group_again() {
 
 #[test]
 fn digits_may_repeat() {
-    let text = "E9 14 CF 00 D1 02 09 0F F2 0C 84 00 81 00 84 00 95 00 96 00 84 00";
-    assert_eq!(accepted(text, 0).0.named, 6);
+    let text = format!("84 00 81 00 84 00 {MSCID} {TYPE_CODE} 84 00");
+    assert_eq!(accepted(&invoke("0F", &text), 0).0.named, 6);
     // As another of a row that does not name it, too.
     let text = "EA 09 CF 01 05 F2 04 84 00 84 00";
     assert_eq!(accepted(text, 26).0.other, 2);

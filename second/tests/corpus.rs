@@ -39,8 +39,8 @@ fn answers(listed: &str) -> BTreeSet<u8> {
 
 #[test]
 fn every_reader_number_of_the_listing_is_met() {
-    let wanted = [0, 20, 21, 25].into_iter().chain(2..=14).collect();
+    let wanted = [0, 20, 21, 25, 26].into_iter().chain(2..=14).collect();
     assert_eq!(answers(STDOUT), wanted);
-    let wanted = [0].into_iter().chain(2..=14).chain(20..=25).collect();
+    let wanted = [0].into_iter().chain(2..=14).chain(20..=26).collect();
     assert_eq!(answers(PACKAGES_STDOUT), wanted);
 }

@@ -239,7 +239,7 @@ fn every_reader_number_is_reached_at_each_index() {
     for number in [1, 2, 22, 23] {
         check_reached(&others, number, 0..2, 50);
     }
-    for number in [3, 4, 5, 6, 7, 8, 9, 10, 11, 12, 13, 14, 20, 21, 25] {
+    for number in [3, 4, 5, 6, 7, 8, 9, 10, 11, 12, 13, 14, 20, 21, 25, 26] {
         check_reached(&own, number, 0..MOST_COMPONENTS, 1);
         check_reached(&own, number, 0..2, 20);
     }
@@ -353,7 +353,7 @@ fn every_writer_number_is_reached() {
             *carriage.entry((24, detail)).or_insert(0) += 1;
         }
     }
-    let wanted = [0, 1, 3, 6, 10, 11, 12, 13, 14, 15, 16, 17, 22, 23, 24];
+    let wanted = [0, 1, 3, 6, 10, 11, 12, 13, 14, 15, 16, 17, 22, 23, 24, 26];
     assert!(numbers.keys().eq(wanted.iter()));
     assert!(numbers.values().all(|count| *count >= 5), "{numbers:?}");
     check_reached(&carriage, 24, 0..MOST_COMPONENTS, 5);

@@ -242,7 +242,7 @@ fn refused_components() {
     }
 }
 
-/// 12 and 14 give the entry, and 15 of a component comes before its row.
+/// 12, 14 and 26 give the entry, and 15 of a component comes before its row.
 #[test]
 fn entries_of_a_component() {
     let source = [0; 4096];
@@ -261,6 +261,9 @@ fn entries_of_a_component() {
             answer(package, 0).expect_err("refused")
         };
         assert_eq!(put(&[entry(7, 0), entry(5, 0), entry(5, 1)]), (12, 2));
+        assert_eq!(put(&[entry(5, 1), entry(5, 0)]), (12, 1));
+        assert_eq!(put(&[entry(7, 0), entry(5, 1)]), (26, 1));
+        assert_eq!(put(&[entry(7, 4), entry(5, 4)]), (26, 1));
         assert_eq!(put(&[entry(7, 4096)]), (15, 4111));
         assert_eq!(put(&[entry(5, 4096)]), (15, 4111));
         assert_eq!(put(&[entry(5, 0), entry(7, 4097)]), (16, 1));
@@ -296,11 +299,12 @@ fn the_package_s_size() {
 #[test]
 fn the_invoke_s_code() {
     let mut table = table();
-    table[..15].copy_from_slice(&[1, 0, 0, 0, 0, 6, 0, 0, 0, 0, 2, 0, 0, 0, 0]);
+    table[..15].copy_from_slice(&[1, 0, 0, 0, 0, 6, 0, 0, 2, 0, 2, 0, 1, 2, 0]);
     for specifier in 0..=255 {
         let package = Package {
             kind: 0xE2,
             specifiers: [specifier; MOST_COMPONENTS],
+            source: &[0x01, 0x07, 0x11],
             ..response(&[0], &table)
         };
         let summaries = [summary(0xE9, &[1, 2], [37, 0xDD], 3)];
@@ -313,8 +317,8 @@ fn the_invoke_s_code() {
         )
         .expect("accepted");
         let component = [
-            0xE9, 0x10, 0xCF, 0x02, 0x01, 0x02, 0xD1, 0x02, 0x09, 0x25, 0xF2, 0x06, 0x81, 0x00,
-            0x86, 0x00, 0x82, 0x00,
+            0xE9, 0x14, 0xCF, 0x02, 0x01, 0x02, 0xD1, 0x02, 0x09, 0x25, 0xF2, 0x0A, 0x81, 0x00,
+            0x86, 0x02, 0x01, 0x07, 0x82, 0x02, 0x07, 0x11,
         ];
         assert_eq!(octets[10..], component);
         let accepted: Accepted = read_again(&octets);

@@ -254,7 +254,7 @@ fn counts() {
 
 /// Refused components with the number and the detail that they have alone,
 /// all of them by the specifier 4.
-const REFUSED: [(&str, u8, u32); 17] = [
+const REFUSED: [(&str, u8, u32); 20] = [
     ("ED 07 CF 01 05 F2 02 85 00", 3, 0),
     ("EA 06 CF 80 05 F2 01 85", 4, 3),
     ("EA 04 CF 81 01 05", 25, 6),
@@ -270,10 +270,14 @@ const REFUSED: [(&str, u8, u32); 17] = [
     ("EA 05 CF 01 05 F2 00", 13, 5),
     ("E9 08 CF 00 D1 02 09 04 F2 00", 13, 5),
     (
-        "E9 16 CF 00 D1 02 09 0D F2 0E 89 00 88 00 95 00 91 00 96 00 9F 81 72 00",
+        "E9 00 CF 00 D1 02 09 0D F2 1B 89 04 82 1A 2B 3C 88 05 21 43 65 87 09 95 03 00 0C 01 \
+         91 00 96 01 02 9F 81 72 00",
         14,
-        20,
+        33,
     ),
+    ("EA 08 CF 01 05 F2 03 85 01 00", 26, 7),
+    ("EA 0B CF 01 05 F2 06 87 00 85 02 85 00", 26, 9),
+    ("E9 0D CF 00 D1 02 09 0D F2 05 89 03 82 1A 2B", 26, 10),
     ("EB 08 CF 01 05 D5 01 85 F2 00", 21, 5),
     ("EC 07 CF 00 D5 01 01 F2 00", 21, 4),
 ];

@@ -268,7 +268,7 @@ fn every_form_is_drawn() {
         reach.add(&case.component, &answer_read(&case).0);
     }
     reach.check();
-    let wanted = [0, 20, 21, 25].into_iter().chain(1..=14);
+    let wanted = [0, 20, 21, 25, 26].into_iter().chain(1..=14);
     assert_eq!(
         reach.numbers.keys().copied().collect::<BTreeSet<_>>(),
         wanted.collect()
@@ -285,7 +285,7 @@ fn every_form_is_directed() {
         reach.add(&case.component, &answer);
     }
     reach.check();
-    let wanted = [0, 20, 21, 25].into_iter().chain(2..=14);
+    let wanted = [0, 20, 21, 25, 26].into_iter().chain(2..=14);
     assert_eq!(
         reach.numbers.into_keys().collect::<BTreeSet<_>>(),
         wanted.collect()

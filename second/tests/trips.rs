@@ -159,8 +159,8 @@ fn check_no_type(reached: &Reached) {
 /// 14 only where a row has a choice.
 fn row_numbers(kind: &ComponentType) -> &'static [u64] {
     match kind.octet {
-        INVOKE => &[11, 12, 13, 14],
-        _ if kind.has_row => &[11, 12, 13],
+        INVOKE => &[11, 12, 13, 14, 26],
+        _ if kind.has_row => &[11, 12, 13, 26],
         _ => &[],
     }
 }

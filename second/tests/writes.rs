@@ -37,6 +37,25 @@ fn table<const COUNT: usize>(entries: [[u16; ENTRY_NUMBERS - 1]; COUNT]) -> Vec<
     placed.concat()
 }
 
+/// As many octets as a row that names it takes, and here any row.
+fn right_size(number: u16) -> u16 {
+    match number {
+        22 => 1,
+        2 | 3 | 6 => 2,
+        21 => 3,
+        9 => 4,
+        8 => 5,
+        _ => 0,
+    }
+}
+
+/// An entry of the source's first octets.
+fn sized(number: u16) -> [u16; ENTRY_NUMBERS - 1] {
+    [number, 0, 0, right_size(number)]
+}
+
+const SOURCE: [u8; 5] = [0x11, 0x22, 0x33, 0x44, 0x55];
+
 fn answer(head: Head, entries: usize, table: &[u16], source: &[u8], room: usize) -> (u8, u32) {
     let before = vec![0x5A; room];
     let mut output = before.clone();
@@ -67,19 +86,19 @@ fn charts_are_written() {
         ..HEAD
     };
     let table = table([
-        [5, 0, 2, 0],
-        [6, 0, 0, 1],
-        [8, 0, 0, 2],
-        [2, 0, 1, 1],
-        [3, 0, 2, 0],
+        [5, 0, 5, 0],
+        [6, 0, 0, 2],
+        [8, 0, 0, 5],
+        [2, 0, 1, 2],
+        [3, 0, 3, 2],
         [16383, 1, 0, 2],
     ]);
     let mut output = [0x5A; 40];
-    let count = write(invoke, 6, &table, &[0x11, 0x22], &mut output);
+    let count = write(invoke, 6, &table, &SOURCE, &mut output);
     let expected = [
-        0xE9, 0x1E, 0xCF, 0x02, 0x05, 0x06, 0xD1, 0x02, 0x09, 0x04, 0xF2, 0x14, 0x85, 0x00, 0x86,
-        0x01, 0x11, 0x88, 0x02, 0x11, 0x22, 0x82, 0x01, 0x22, 0x83, 0x00, 0xBF, 0xFF, 0x7F, 0x02,
-        0x11, 0x22,
+        0xE9, 0x25, 0xCF, 0x02, 0x05, 0x06, 0xD1, 0x02, 0x09, 0x04, 0xF2, 0x1B, 0x85, 0x00, 0x86,
+        0x02, 0x11, 0x22, 0x88, 0x05, 0x11, 0x22, 0x33, 0x44, 0x55, 0x82, 0x02, 0x22, 0x33, 0x83,
+        0x02, 0x44, 0x55, 0xBF, 0xFF, 0x7F, 0x02, 0x11, 0x22,
     ];
     assert_eq!(count, Ok(expected.len()));
     assert_eq!(output[..expected.len()], expected);
@@ -106,11 +125,11 @@ fn errors_and_rejects_are_written() {
     assert_eq!(written(with_id, &[]), octets);
 }
 
-/// The octets of an accepted writing from no source.
+/// The octets of an accepted writing.
 fn written(head: Head, table: &[u16]) -> Vec<u8> {
     let mut output = vec![0x5A; 40];
     let entries = table.len() / ENTRY_NUMBERS;
-    let count = write(head, entries, table, &[], &mut output).expect("accepted");
+    let count = write(head, entries, table, &SOURCE, &mut output).expect("accepted");
     output.truncate(count);
     output
 }
@@ -134,7 +153,7 @@ fn octets_of_the_code_that_are_not_looked_at() {
             code: [37, 0],
             ..HEAD
         };
-        let mandatory = table([1, 6, 2].map(|number| [number, 0, 0, 0]));
+        let mandatory = table([1, 6, 2].map(sized));
         assert_eq!(
             written(second(invoke), &mandatory),
             written(invoke, &mandatory)
@@ -255,21 +274,22 @@ fn rows_are_asked_between_15_and_17() {
         code: [13, 0],
         ..HEAD
     };
-    let both = table([9, 242, 21, 17, 8, 22].map(|number| [number, 0, 0, 0]));
-    assert_eq!(answer(choice, 6, &both, &[], 0), (14, 4));
-    assert_eq!(answer(choice, 5, &both, &[], 0), (13, 22));
+    let both = table([9, 242, 21, 17, 8, 22].map(sized));
+    assert_eq!(answer(choice, 6, &both, &SOURCE, 0), (14, 4));
+    assert_eq!(answer(choice, 5, &both, &SOURCE, 0), (13, 22));
 }
 
-/// The answer to these primitive numbers with no contents, into enough room.
+/// The answer to these primitive numbers with as few contents as they may
+/// have, into enough room.
 fn ordered(head: Head, numbers: &[u16]) -> (u8, u32) {
-    let entries = numbers.iter().map(|number| [*number, 0, 0, 0, PLACE]);
+    let entries = numbers.iter().map(|number| table([sized(*number)]));
     let table = entries.collect::<Vec<_>>().concat();
-    answer(head, numbers.len(), &table, &[], 64)
+    answer(head, numbers.len(), &table, &SOURCE, 64)
 }
 
 /// InterSystemPage and InterSystemSMSPage with what must occur beside the
 /// group, and how many octets that takes.
-const PAGES: [(u8, [u16; 2], u32); 2] = [(32, [1, 9], 4), (101, [105, 116], 6)];
+const PAGES: [(u8, [u16; 2], u32); 2] = [(32, [1, 9], 8), (101, [105, 116], 6)];
 
 fn page(specifier: u8) -> Head {
     Head {
@@ -283,16 +303,17 @@ fn page(specifier: u8) -> Head {
 #[test]
 fn pages_are_written() {
     let by_network_tmsi = [
-        0xE9, 0x10, 0xCF, 0x00, 0xD1, 0x02, 0x09, 0x20, 0xF2, 0x08, 0x81, 0x00, 0x89, 0x00, 0x9F,
-        0x81, 0x69, 0x00,
+        0xE9, 0x14, 0xCF, 0x00, 0xD1, 0x02, 0x09, 0x20, 0xF2, 0x0C, 0x81, 0x00, 0x89, 0x04, 0x11,
+        0x22, 0x33, 0x44, 0x9F, 0x81, 0x69, 0x00,
     ];
-    let entries = table([1, 9, 233].map(|number| [number, 0, 0, 0]));
+    let entries = table([1, 9, 233].map(sized));
     assert_eq!(written(page(32), &entries), by_network_tmsi);
     let by_all_three = [
-        0xE9, 0x18, 0xCF, 0x00, 0xD1, 0x02, 0x09, 0x65, 0xF2, 0x10, 0x9F, 0x81, 0x69, 0x00, 0x9F,
-        0x69, 0x00, 0x88, 0x00, 0x9F, 0x74, 0x00, 0x9F, 0x81, 0x72, 0x00,
+        0xE9, 0x1D, 0xCF, 0x00, 0xD1, 0x02, 0x09, 0x65, 0xF2, 0x15, 0x9F, 0x81, 0x69, 0x00, 0x9F,
+        0x69, 0x00, 0x88, 0x05, 0x11, 0x22, 0x33, 0x44, 0x55, 0x9F, 0x74, 0x00, 0x9F, 0x81, 0x72,
+        0x00,
     ];
-    let entries = table([233, 105, 8, 116, 242].map(|number| [number, 0, 0, 0]));
+    let entries = table([233, 105, 8, 116, 242].map(sized));
     assert_eq!(written(page(101), &entries), by_all_three);
 }
 
@@ -302,14 +323,14 @@ fn groups() {
         let head = page(specifier);
         let asked = |numbers: &[u16]| ordered(head, numbers);
         for (members, more) in [
-            (&[8][..], 2),
+            (&[8][..], 7),
             (&[242], 4),
             (&[233], 4),
-            (&[8, 242], 6),
-            (&[233, 8], 6),
+            (&[8, 242], 11),
+            (&[233, 8], 11),
             (&[242, 233], 8),
-            (&[8, 242, 233], 10),
-            (&[233, 242, 8], 10),
+            (&[8, 242, 233], 15),
+            (&[233, 242, 8], 15),
         ] {
             let taken = (0, 10 + octets + more);
             assert_eq!(asked(&[&[first, second], members].concat()), taken);
@@ -338,18 +359,18 @@ fn members_of_groups_again() {
             assert_eq!(asked(&[first, member, member, second]), (12, 2));
             assert_eq!(asked(&[member, member]), (12, 1));
             assert_eq!(asked(&[8, 242, 233, first, second, member]), (12, 5));
-            let forms = |list: [(u16, u16); 4]| table(list.map(|(n, form)| [n, form, 0, 0]));
-            let twins = forms([(member, 1), (first, 0), (second, 0), (member, 1)]);
-            assert_eq!(answer(head, 4, &twins, &[], 64), (13, 8));
-            let twin = forms([(member, 1), (first, 0), (second, 0), (member, 0)]);
-            let size = if member == 8 { 2 } else { 4 };
-            let taken = (0, 10 + octets + 2 * size);
-            assert_eq!(answer(head, 4, &twin, &[], 64), taken);
+            let twin = [member, 1, 0, 0];
+            let twins = table([twin, sized(first), sized(second), twin]);
+            assert_eq!(answer(head, 4, &twins, &SOURCE, 64), (13, 8));
+            let beside = table([twin, sized(first), sized(second), sized(member)]);
+            let size = if member == 8 { 2 + 7 } else { 4 + 4 };
+            let taken = (0, 10 + octets + size);
+            assert_eq!(answer(head, 4, &beside, &SOURCE, 64), taken);
         }
         assert_eq!(ordered(head, &[first, second, second]), (12, 2));
     }
     // HandoffBack2 names only IMSI of them.
-    assert_eq!(ordered(page(37), &[1, 6, 2, 233, 8, 233, 8]), (0, 28));
+    assert_eq!(ordered(page(37), &[1, 6, 2, 233, 8, 233, 8]), (0, 42));
     assert_eq!(ordered(page(37), &[1, 6, 2, 242, 233, 242]), (12, 5));
 }
 
@@ -393,7 +414,7 @@ fn the_fifth_number_changes_nothing() {
         }
         answers.insert(expected.0.map_or_else(|refusal| refusal.number, |_| 0));
     }
-    let all = [0, 1, 3, 6, 10, 11, 12, 13, 14, 15, 16, 17];
+    let all = [0, 1, 3, 6, 10, 11, 12, 13, 14, 15, 16, 17, 26];
     assert_eq!(answers, all.into());
 }
 

@@ -7,9 +7,9 @@ use Rattle.component.specs.Layout.{spanOf, contents, wanted, setAt, codedAt, co
 use Rattle.component.specs.Layout.{parameter, parameterAt, parameters, layoutBehind, layoutFrom, codeOctets}
 use Rattle.component.specs.Layout.{operationPlace}
 use Rattle.component.specs.Types.{formatOf, typed, idFits}
-use Rattle.operation.specs.Row.{key, numberOf, members, someOf, among, onLine, asks, named, repeats}
-use Rattle.operation.specs.Judge.{occurs, lastMark, once, met, present, doubled, single, judge, countNamed}
-use Rattle.operation.specs.Rows.{operations}
+use Rattle.operation.specs.Row.{key, numberOf, members, someOf, among, onLine, asks, named, repeats, allows}
+use Rattle.operation.specs.Judge.{occurs, lastMark, once, sized, met, present, doubled, single, judge, countNamed}
+use Rattle.operation.specs.Rows.{fixed, sizesIn, sizes, operations}
 use Rattle.operation.specs.Finding.{find, rowed, rowOf}
 use Rattle.operation.specs.Items.{itemOf}
 use Rattle.operation.specs.Reading.{operationIn, countOther, shownOf, readingFrom}
@@ -48,7 +48,8 @@ printed-lines =
 pub sample : printed packages input ≡ packagesHeader ++ printed-lines
 unfolding lengthAt numbered identifierAt spanOf contents wanted setAt formatOf typed idFits codedAt codeAt
     behindId bodyAt headFrom parameter parameterAt parameters layoutBehind layoutFrom codeOctets operationPlace
-    key numberOf members someOf among onLine asks named repeats occurs lastMark once met present doubled single
+    key numberOf members someOf among onLine asks named repeats allows fixed sizesIn sizes occurs lastMark once sized
+    met present doubled single
     judge countNamed operations find rowed rowOf itemOf operationOf toldCode operationIn countOther shownOf readingFrom
     octets packageType idSize sequenceAt idsAt opening componentsFrom allFrom lines others lineOf column carrier
     readEach carries carriedIn few sequenceReading packageReading told fieldAt digits decimal L.cell L.row L.lineOf

@@ -7,9 +7,9 @@ use Rattle.component.specs.Layout.{spanOf, contents, wanted, setAt, codedAt, co
 use Rattle.component.specs.Layout.{parameter, parameterAt, parameters, layoutBehind, layoutAt, codeOctets}
 use Rattle.component.specs.Layout.{operationPlace}
 use Rattle.component.specs.Types.{formatOf, typed, idFits}
-use Rattle.operation.specs.Row.{key, numberOf, members, someOf, among, onLine, asks, named, repeats}
-use Rattle.operation.specs.Judge.{occurs, lastMark, once, met, present, doubled, single, judge, countNamed}
-use Rattle.operation.specs.Rows.{operations}
+use Rattle.operation.specs.Row.{key, numberOf, members, someOf, among, onLine, asks, named, repeats, allows}
+use Rattle.operation.specs.Judge.{occurs, lastMark, once, sized, met, present, doubled, single, judge, countNamed}
+use Rattle.operation.specs.Rows.{fixed, sizesIn, sizes, operations}
 use Rattle.operation.specs.Finding.{find, rowed, rowOf}
 use Rattle.operation.specs.Items.{itemOf}
 use Rattle.operation.specs.Reading.{operationIn, countOther, shownOf, readingAt}
@@ -36,7 +36,8 @@ lines =
 pub sample : printed components input ≡ headerLine ++ lines
 unfolding lengthAt numbered identifierAt spanOf contents wanted setAt formatOf typed idFits codedAt codeAt
     behindId bodyAt headFrom headAt parameter parameterAt parameters layoutBehind layoutAt codeOctets operationPlace
-    key numberOf members someOf among onLine asks named repeats occurs lastMark once met present doubled single
+    key numberOf members someOf among onLine asks named repeats allows fixed sizesIn sizes occurs lastMark once sized
+    met present doubled single
     judge countNamed operations find rowed rowOf itemOf operationOf toldCode operationIn countOther shownOf readingAt
     told fieldAt digits decimal cell row lineOf after linesFor listing fills whole inputFrom inputOf printed
 sample = refl

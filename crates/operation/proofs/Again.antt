@@ -27,7 +27,7 @@ use Rattle.operation.specs.Caller.{Wrote}
 use Rattle.operation.specs.Demands.{Rowed, RowFor, listed, unasked, itsOperation, itsCode, puts, handed, Right, tells}
 use Rattle.operation.specs.Model.{written-as}
 use Rattle.operation.proofs.RowsFound.{its-row}
-use Rattle.operation.proofs.Keys.{fits-written}
+use Rattle.operation.proofs.RowFaults.{exact}
 
 pub inner : {A : Type 0} {x y : A} → _≡_ {A = Answer A} (accepted x) (accepted y) → x ≡ y
 inner e = cc
@@ -62,7 +62,7 @@ module _ {s : Octets} {given : ℕ} {t : List ℕ} {c : Component} {row : Row} (
         ← as-many shows,
         entries-again c composable (l .few) shows table,
         its-row _ _ _ (handed-row c given (r .has-row)),
-        fits-written row 0 (c .parameters) .1 (r .fits),
+        exact row _ .1 (r .fits),
         octets-again c composable _ (handed-code c given composable) room (omega (arith, shorter (l .laid) .never-longer)),
       )
 

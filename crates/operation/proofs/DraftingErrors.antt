@@ -14,10 +14,10 @@ use Rattle.operation.specs.Reading.{operationIn}
 use Rattle.operation.proofs.Newcomers.{Grown}
 use Rattle.operation.proofs.Untouched.{untouched}
 
--- treating no octets as absent: what a row sees of a parameter does not hang on its contents
+-- treating no octets as absent: the key, by which a parameter occurs, does not hang on its contents
 pub no-octets-occur : (number form place start size start′ size′ : ℕ) →
-    itemOf (record { number = number; form = form; place = place; start = start; size = size })
-    ≡ itemOf (record { number = number; form = form; place = place; start = start′; size = size′ })
+    itemOf (record { number = number; form = form; place = place; start = start; size = size }) .is
+    ≡ itemOf (record { number = number; form = form; place = place; start = start′; size = size′ }) .is
 unfolding itemOf
 no-octets-occur number form place start size start′ size′ = refl
 

@@ -1,11 +1,12 @@
 -- What the paper's list shuts out: none of these satisfies the demands, since each differs from ours on one input.
-use Prim.Native.Nat.{ℕ, _+_, _%_, _<_, _≤_}
+use Prim.Native.Nat.{ℕ, zero, suc, _+_, _%_, _<_, _≤_}
 use mathlib.Core.Path.{_≡_, refl, sym, ap, subst, _∙_}
-use mathlib.Core.Bool.{true≢false}
+use mathlib.Core.Bool.{Bool, true, _&&_, true≢false}
 use mathlib.Core.List.{List, [], _∷_, _++_, append-nil, map}
 use mathlib.Core.Logic.{inr}
 use lib.ListN.{length, getD, drop, replicate}
-use borrow.Author.Tests.{ne-eqb}
+use lib.Dec.{ltb}
+use borrow.Author.Tests.{ne-eqb, ltb-true}
 use native.Mathlib.Nat.{add-zero, zero-add}
 use native.Mathlib.Decide.{decLe}
 use native.Mathlib.Omega.{arith}
@@ -13,7 +14,6 @@ use Rattle.element.specs.Octets.{Octets, AreOctets}
 use Rattle.element.specs.Answer.{Answer, accepted, refused}
 use Rattle.element.specs.Length.{LengthField, shortest, fieldSize}
 use Rattle.element.specs.Identifier.{IdentifierField, identifier, identifierSize}
-use Rattle.element.proofs.Reading.{small}
 use Rattle.element.proofs.IdentifierLaws.{no-longer-run}
 use Rattle.component.specs.Table.{Entry, width, tableSize, tableWith, held, heldFrom, parameterOf, idOctets, writtenCode, componentOf}
 use Rattle.component.specs.Grammar.{Parameter, Component, Element, Coded, Laid}
@@ -28,24 +28,39 @@ use Rattle.component.specs.Composing.{entryStands, takenFrom, entriesFrom, entr
 use Rattle.element.specs.Output.{written, outputAfter}
 use Rattle.component.specs.Types.{codingOf, Typed, Allowed, formatOf, typed, idFits}
 use Rattle.component.specs.Needed.{elementSize, setSize, codingSize, bodySize, octetsNeeded}
-use Rattle.operation.specs.Row.{Row, key, numberOf, members, someOf, among, onLine, asks, named, named as names, repeats}
-use Rattle.operation.specs.Judge.{occurs, lastMark, once, met, present, doubled, single, judge, countNamed}
-use Rattle.operation.specs.Rows.{operations}
+use Rattle.operation.specs.Row.{Row, Item, key, numberOf, members, someOf, among, onLine, asks, named, named as names, repeats, allows}
+use Rattle.operation.specs.Judge.{occurs, lastMark, once, sized, met, present, doubled, single, judge, countNamed}
+use Rattle.operation.specs.Rows.{fixed, sizesIn, sizes, operations}
 use Rattle.operation.specs.Finding.{find, rowed, rowOf}
-use Rattle.operation.specs.Items.{itemsOf}
-use Rattle.operation.specs.Book.{none}
+use Rattle.operation.specs.Items.{itemOf, itemsOf}
+use Rattle.operation.specs.Book.{keysOf, none, Once}
+use Rattle.operation.specs.Faults.{First, Missized, missized}
 use Rattle.operation.specs.Codes.{toldCode}
 use Rattle.operation.specs.Writing.{writing}
 use Rattle.operation.specs.Caller.{Read, read, Told, Reader, Order, Writer}
 use Rattle.operation.specs.Demands.{keyOf, Rowed, RowFor, unasked, itsOperation, tally, ReaderRefuses, tells, handed, Joined, done, kept, Truthful, Demands}
 use Rattle.operation.specs.Model.{reader, writer, OnlyOne}
-use Rattle.operation.specs.Charts.{zeros, expected, starred, living}
+use Rattle.operation.specs.Charts.{Chart, zeros, reads, expected, starred, living}
 use Rattle.operation.proofs.Charts.{charts, rows-live}
+use Rattle.operation.proofs.Lines.{each, each-of}
 use Rattle.operation.proofs.OnlyOne.{reader-refuses, refused-so, only-one}
+
+-- octets, by one test over them
+abbrev pub below : Octets → Bool
+below [] = true
+below (x ∷ s) = ltb x 256 && below s
+
+pub are-octets : (s : Octets) → below s ≡ true → AreOctets s
+are-octets [] e i = omega arith
+are-octets (x ∷ s) e zero = ltb-true x 256 (each (ltb x 256) (below s) e .0)
+are-octets (x ∷ s) e (suc i) = are-octets s (each (ltb x 256) (below s) e .1) i
 
 -- what ours says of a chart, and what it leaves
 abbrev at : ℕ → List Read → Read
 at i rs = getD rs i (record { answer = refused 0 0; table = [] })
+
+abbrev charted : ℕ → Chart
+charted i = getD living i (record { octets = []; specifier = 0; read = at i [] })
 
 abbrev chart : Octets
 chart = 0xEA ∷ 0x07 ∷ 0xCF ∷ 0x01 ∷ 0x05 ∷ 0xF2 ∷ 0x02 ∷ 0x85 ∷ 0x00 ∷ []
@@ -94,25 +109,25 @@ paged n = record { kind = 0xE9; id = record { count = 1; first = 5; second = 0 }
 
 -- behind BillingID: NetworkTMSI, ESN, IMSI and MIN; ESN and NetworkTMSI; ESN and the group's constructors
 abbrev several : Octets
-several = 0x9F ∷ 0x81 ∷ 0x69 ∷ 0x00 ∷ 0x89 ∷ 0x00 ∷ 0x9F ∷ 0x81 ∷ 0x72 ∷ 0x00 ∷ 0x88 ∷ 0x00 ∷ []
+several = 0x9F ∷ 0x81 ∷ 0x69 ∷ 0x00 ∷ 0x89 ∷ 0x04 ∷ 0x00 ∷ 0x00 ∷ 0x00 ∷ 0x00 ∷ 0x9F ∷ 0x81 ∷ 0x72 ∷ 0x00 ∷ 0x88 ∷ 0x05 ∷ 0x00 ∷ 0x00 ∷ 0x00 ∷ 0x00 ∷ 0x00 ∷ []
 
 abbrev temporary : Octets
-temporary = 0x89 ∷ 0x00 ∷ 0x9F ∷ 0x81 ∷ 0x69 ∷ 0x00 ∷ []
+temporary = 0x89 ∷ 0x04 ∷ 0x00 ∷ 0x00 ∷ 0x00 ∷ 0x00 ∷ 0x9F ∷ 0x81 ∷ 0x69 ∷ 0x00 ∷ []
 
 abbrev twins : Octets
-twins = 0x89 ∷ 0x00 ∷ 0xA8 ∷ 0x00 ∷ 0xBF ∷ 0x81 ∷ 0x72 ∷ 0x00 ∷ 0xBF ∷ 0x81 ∷ 0x69 ∷ 0x00 ∷ []
+twins = 0x89 ∷ 0x04 ∷ 0x00 ∷ 0x00 ∷ 0x00 ∷ 0x00 ∷ 0xA8 ∷ 0x00 ∷ 0xBF ∷ 0x81 ∷ 0x72 ∷ 0x00 ∷ 0xBF ∷ 0x81 ∷ 0x69 ∷ 0x00 ∷ []
 
 chart-octets : AreOctets chart
-chart-octets = small chart (omega arith)
+chart-octets = are-octets chart refl
 
 two-octets : AreOctets two
-two-octets = small two (omega arith)
+two-octets = are-octets two refl
 
 abbrev order : Order
 order = record { kind = 0xEA; id = record { count = 1; first = 5; second = 0 }; code = record { first = 4; second = 0 }; count = 1; table = 5 ∷ 0 ∷ 0 ∷ 0 ∷ 0 ∷ []; source = [] }
 
 composed-so : writer order (replicate 9 0) ≡ record { answer = accepted 9; output = chart }
-unfolding shortest fieldSize identifier identifierSize key numberOf members someOf among onLine asks named repeats occurs lastMark once met present doubled single judge countNamed operations find rowed rowOf formatOf typed element setOf codeElement composed fits heldFrom parameterOf entryStands takenFrom elementSize setSize codingSize bodySize octetsNeeded idFits idOctets writtenCode componentOf entriesOf octetsOf written outputAfter itemsOf writing
+unfolding shortest fieldSize identifier identifierSize key numberOf members someOf among onLine asks named repeats allows fixed sizesIn sizes occurs lastMark once sized met present doubled single judge countNamed operations find rowed rowOf formatOf typed element setOf codeElement composed fits heldFrom parameterOf entryStands takenFrom elementSize setSize codingSize bodySize octetsNeeded idFits idOctets writtenCode componentOf entriesOf octetsOf written outputAfter itemsOf writing
 composed-so = refl
 
 -- an entry but for its place
@@ -156,7 +171,7 @@ module _ (r : Reader) (w : Writer) (d : Demands r w) where
       let p = h chart 4 zeros in
       let q = ap (λ x. x .answer) (ours-is chart 4 zeros chart-octets ∙ shown) in
       let u = h [] 0 zeros in
-      let v = ap (λ x. x .answer) (ours-is [] 0 zeros (small [] tt) ∙ shown-empty) in
+      let v = ap (λ x. x .answer) (ours-is [] 0 zeros (are-octets [] refl) ∙ shown-empty) in
       let z : _≡_ {A = ℕ} 0 1 = cc in
       omega arith
 
@@ -213,7 +228,7 @@ module _ (r : Reader) (w : Writer) (d : Demands r w) where
       (Rowed (c .kind) → ⊥) → r s given t ≡ read (accepted (tells given c [])) (tableWith (standing (h .laid)) t)
   unfolding names
   layout-is-the-verdict s given t o enough h n =
-      d .second .shown s given t o (record { enough = enough; laid-out = h; has-row = unasked n; fits = record { kept = none; once = λ k e. absurd (true≢false (sym e)) } })
+      d .second .shown s given t o (record { enough = enough; laid-out = h; has-row = unasked n; fits = record { kept = none; once = λ k e. absurd (true≢false (sym e)); sized = each-of _ _ λ x _ e. absurd (true≢false (sym e)) } })
 
   pub nothing-named : (given : ℕ) (c : Component) → tells given c [] .named ≡ 0
   unfolding tally names
@@ -235,18 +250,18 @@ module _ (r : Reader) (w : Writer) (d : Demands r w) where
 
   pub problems-in-order : {x : Told} → r reject 13 zeros .answer ≡ accepted x → x .code ≡ record { first = 2; second = 3 }
   problems-in-order e =
-      let p = ap (λ x. x .answer) (ours-is reject 13 zeros (small reject (omega arith)) ∙ ap (at 40) rows-live) in
+      let p = ap (λ x. x .answer) (ours-is reject 13 zeros (are-octets reject refl) ∙ ap (at 40) rows-live) in
       ap (λ x. x .code) (same (sym e ∙ p))
     where
       same : {x y : Told} → _≡_ {A = Answer Told} (accepted x) (accepted y) → x ≡ y
       same q = cc
 
   pub two-in-a-reject-refused : r reject-of-two 0 zeros ≡ read (refused 6 2) zeros
-  two-in-a-reject-refused = ours-is reject-of-two 0 zeros (small reject-of-two (omega arith)) ∙ ap (at 41) rows-live
+  two-in-a-reject-refused = ours-is reject-of-two 0 zeros (are-octets reject-of-two refl) ∙ ap (at 41) rows-live
 
   -- 25 where the parent has ended, before 21 can be asked
   pub ended-before-the-code : r error-ended 0 zeros ≡ read (refused 25 5) zeros
-  ended-before-the-code = ours-is error-ended 0 zeros (small error-ended (omega arith)) ∙ ap (at 38) rows-live
+  ended-before-the-code = ours-is error-ended 0 zeros (are-octets error-ended refl) ∙ ap (at 38) rows-live
 
   -- ---- 5, 20 and 25, over any octets: of any type, and with lengths of any form
   module _ (given : ℕ) (t : List ℕ) (enough : tableSize ≤ length t) where
@@ -298,10 +313,10 @@ module _ (r : Reader) (w : Writer) (d : Demands r w) where
 
   -- ---- padded lengths
   pub leading-zero-taken : r padded 4 zeros ≡ read (accepted (record { kind = 0xEA; id = record { count = 1; first = 5; second = 0 }; code = record { first = 4; second = 0 }; all = 1; named = 1; other = 0 })) (5 ∷ 0 ∷ 16 ∷ 0 ∷ 12 ∷ replicate 315 0)
-  leading-zero-taken = ours-is padded 4 zeros (small padded (omega arith)) ∙ ap (at 44) rows-live
+  leading-zero-taken = ours-is padded 4 zeros (are-octets padded refl) ∙ ap (at 44) rows-live
 
   pub form-80-refused : r form-80 0 zeros ≡ read (refused 4 1) zeros
-  form-80-refused = ours-is form-80 0 zeros (small form-80 (omega arith)) ∙ ap (at 48) rows-live
+  form-80-refused = ours-is form-80 0 zeros (are-octets form-80 refl) ∙ ap (at 48) rows-live
 
   pub padding-not-copied : (s : Octets) (given : ℕ) (t : List ℕ) (out : Octets) {x : Told} {c : Component} → AreOctets s → r s given t .answer ≡ accepted x →
       (h : Laid c s) → length s ≤ length out → (Shortest h → ⊥) → (n : ℕ) × (w (handed x (r s given t .table) s) out .answer ≡ accepted n) × (n < length s)
@@ -318,21 +333,56 @@ module _ (r : Reader) (w : Writer) (d : Demands r w) where
   -- ---- groups, each by one page; `Groups` has what holds of any run
   -- ESN and all of the group are missing
   pub group-asked-last : r (page 0x0B 0x02 []) 0 zeros ≡ read (refused 13 9) zeros
-  group-asked-last = ours-is _ 0 zeros (small (page 0x0B 0x02 []) (omega arith)) ∙ ap (at 56) rows-live
+  group-asked-last = ours-is _ 0 zeros (are-octets (page 0x0B 0x02 []) refl) ∙ ap (at 56) rows-live
 
-  pub group-gives-its-first : r (page 0x0D 0x04 (0x89 ∷ 0x00 ∷ [])) 0 zeros ≡ read (refused 13 8) zeros
-  group-gives-its-first = ours-is _ 0 zeros (small (page 0x0D 0x04 (0x89 ∷ 0x00 ∷ [])) (omega arith)) ∙ ap (at 55) rows-live
+  pub group-gives-its-first : r (page 0x11 0x08 (0x89 ∷ 0x04 ∷ 0x00 ∷ 0x00 ∷ 0x00 ∷ 0x00 ∷ [])) 0 zeros ≡ read (refused 13 8) zeros
+  group-gives-its-first = ours-is _ 0 zeros (are-octets (page 0x11 0x08 (0x89 ∷ 0x04 ∷ 0x00 ∷ 0x00 ∷ 0x00 ∷ 0x00 ∷ [])) refl) ∙ ap (at 55) rows-live
 
-  pub several-taken : r (page 0x17 0x0E several) 0 zeros .answer ≡ accepted (paged 5)
-  several-taken = ap (λ x. x .answer) (ours-is _ 0 zeros (small (page 0x17 0x0E several) (omega arith)) ∙ ap (at 54) rows-live)
+  pub several-taken : r (page 0x20 0x17 several) 0 zeros .answer ≡ accepted (paged 5)
+  several-taken = ap (λ x. x .answer) (ours-is _ 0 zeros (are-octets (page 0x20 0x17 several) refl) ∙ ap (at 54) rows-live)
 
   -- NetworkTMSI alone: named, and none is other
-  pub network-TMSI-named : r (page 0x11 0x08 temporary) 0 zeros .answer ≡ accepted (paged 3)
-  network-TMSI-named = ap (λ x. x .answer) (ours-is _ 0 zeros (small (page 0x11 0x08 temporary) (omega arith)) ∙ ap (at 53) rows-live)
+  pub network-TMSI-named : r (page 0x15 0x0C temporary) 0 zeros .answer ≡ accepted (paged 3)
+  network-TMSI-named = ap (λ x. x .answer) (ours-is _ 0 zeros (are-octets (page 0x15 0x0C temporary) refl) ∙ ap (at 53) rows-live)
 
   -- the three members as constructors
-  pub twins-are-others : r (page 0x17 0x0E twins) 0 zeros ≡ read (refused 13 8) zeros
-  twins-are-others = ours-is _ 0 zeros (small (page 0x17 0x0E twins) (omega arith)) ∙ ap (at 57) rows-live
+  pub twins-are-others : r (page 0x1B 0x12 twins) 0 zeros ≡ read (refused 13 8) zeros
+  twins-are-others = ours-is _ 0 zeros (are-octets (page 0x1B 0x12 twins) refl) ∙ ap (at 57) rows-live
+
+  -- ---- sizes: of any component that is laid out and has nothing again, 26 at the earliest of a wrong size, whatever is missing; `Sized` has what holds
+  -- of any run, and the charts one case each
+  pub wrong-size-is-26 : (s : Octets) (given : ℕ) (t : List ℕ) {c : Component} {row : Row} {x : Item} → AreOctets s → tableSize ≤ length t → (h : LaidOut c s) →
+      RowFor (c .kind) (itsOperation c given) row → let xs = map itemOf (standing (h .laid)) in Once row (keysOf xs) → First (Missized row) xs x →
+      r s given t ≡ read (refused 26 (x .mark)) t
+  wrong-size-is-26 s given t o enough h e once f = ours-is s given t o ∙ refused-so s o given t (reader-refuses s o given t (ReaderRefuses.misfit enough h e (missized once f)))
+
+  -- chart `i` of `living` is read as it says
+  abbrev pub Reads : ℕ → Type 0
+  Reads i = r (charted i .octets) (charted i .specifier) zeros ≡ charted i .read
+
+  as-charted : (i : ℕ) → below (charted i .octets) ≡ true → reads (charted i) ≡ charted i .read → Reads i
+  as-charted i o e = ours-is (charted i .octets) (charted i .specifier) zeros (are-octets (charted i .octets) o) ∙ e
+
+  pub three-octets-of-channel-data-taken : Reads 77
+  three-octets-of-channel-data-taken = as-charted 77 refl (ap (at 77) rows-live)
+
+  pub again-before-a-wrong-size : Reads 78
+  again-before-a-wrong-size = as-charted 78 refl (ap (at 78) rows-live)
+
+  pub wrong-size-before-missing : Reads 79
+  wrong-size-before-missing = as-charted 79 refl (ap (at 79) rows-live)
+
+  pub wrong-size-before-both : Reads 80
+  wrong-size-before-both = as-charted 80 refl (ap (at 80) rows-live)
+
+  pub at-the-earliest-wrong-size : Reads 81
+  at-the-earliest-wrong-size = as-charted 81 refl (ap (at 81) rows-live)
+
+  pub unnamed-ESN-of-three-taken : Reads 82
+  unnamed-ESN-of-three-taken = as-charted 82 refl (ap (at 82) rows-live)
+
+  pub twin-of-any-size-taken : Reads 83
+  twin-of-any-size-taken = as-charted 83 refl (ap (at 83) rows-live)
 
   pub not-writing-nothing : ((o : Order) (out : Octets) → w o out .output ≡ out) → ⊥
   unfolding OnlyOne

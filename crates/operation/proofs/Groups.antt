@@ -6,8 +6,8 @@ use mathlib.Core.List.{List, [], _∷_, List·Memᴰ, List·Memᴰ·head, List·
 use native.Mathlib.Omega.{arith}
 use Rattle.operation.specs.Row.{Row, Line, must, oneOf, anyOf, may, Item, asks, numberOf, asksNothing, groupLast}
 use Rattle.operation.specs.Rows.{Operation, operations}
-use Rattle.operation.specs.Book.{Each, none, more, times, Once}
-use Rattle.operation.specs.Faults.{keysOf, First, Unmet, Doubled, RowFault, again, missing, both}
+use Rattle.operation.specs.Book.{keysOf, Each, none, more, times, Once, Sized}
+use Rattle.operation.specs.Faults.{First, Unmet, Doubled, RowFault, again, missized, missing, both}
 use Rattle.operation.specs.Demands.{RowFor, listed, unasked}
 use Rattle.operation.proofs.Lines.{all, of-all, of-each, each-of}
 
@@ -20,10 +20,10 @@ module _ (ks : List ℕ) (i : ℕ) (js : List ℕ) where
   only-members-meet h = each-of (λ i. times i ks ≡ 0) (i ∷ js) h
 
 -- 13 gives it by its first member
-pub by-its-first : {row : Row} {xs : List Item} {i : ℕ} {js : List ℕ} → Once row (keysOf xs) →
+pub by-its-first : {row : Row} {xs : List Item} {i : ℕ} {js : List ℕ} → Once row (keysOf xs) → Each (Sized row) xs →
     First (Unmet (keysOf xs)) row (anyOf i js) → RowFault row xs 13 (numberOf i)
 unfolding asks
-by-its-first o f = missing o f
+by-its-first o s f = missing o s f
 
 -- in each row of the paper
 abbrev last-in : Operation → Bool
@@ -81,5 +81,6 @@ the-choice ks (First.later n f) = let (i, j, m, a, b) = the-choice ks f in (i, j
 pub of-a-choice : {row : Row} {xs : List Item} {n d : ℕ} → RowFault row xs n d → n ≡ 14 →
     (i : ℕ) × (j : ℕ) × List·Memᴰ (oneOf i j) row × (1 ≤ times i (keysOf xs)) × (1 ≤ times j (keysOf xs))
 of-a-choice (again before x behind e o m r u) q = absurd (omega arith)
-of-a-choice (missing o f) q = absurd (omega arith)
-of-a-choice {xs = xs} (both o e f y) q = the-choice (keysOf xs) f
+of-a-choice (missized o f) q = absurd (omega arith)
+of-a-choice (missing o s f) q = absurd (omega arith)
+of-a-choice {xs = xs} (both o s e f y) q = the-choice (keysOf xs) f

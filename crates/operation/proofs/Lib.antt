@@ -4,10 +4,12 @@ pub mod Groups
 pub mod Untouched
 pub mod Marks
 pub mod RowFaults
+pub mod Sized
 pub mod Entries
 pub mod Sets
 pub mod Repeats
 pub mod Musts
+pub mod Missizing
 pub mod Noting
 pub mod Verdicts
 pub mod Settling

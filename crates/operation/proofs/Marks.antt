@@ -1,14 +1,15 @@
 -- Marks only point: where they move, the judgement is the same and its refusals move along.
 use Prim.Native.Nat.{ℕ}
 use mathlib.Core.Path.{_≡_, refl}
-use mathlib.Core.Bool.{Bool, true, false, _&&_, not}
+use mathlib.Core.Bool.{Bool, true, false, _&&_, _||_, not}
 use mathlib.Core.List.{List, [], _∷_, map}
 use lib.Dec.{eqb}
 use borrow.Author.Tests.{not-false}
 use Rattle.element.specs.Octets.{if}
 use Rattle.element.specs.Answer.{Answer, accepted, refused, _>>_, check}
-use Rattle.operation.specs.Row.{Row, asks, Item, named, repeats}
-use Rattle.operation.specs.Judge.{occurs, once, met, present, doubled, single, judge, countNamed, pointed, remark}
+use Rattle.operation.specs.Row.{Row, asks, Item, named, repeats, allows}
+use Rattle.operation.specs.Rows.{sizes}
+use Rattle.operation.specs.Judge.{occurs, once, sized, met, present, doubled, single, judge, countNamed, pointed, remark}
 use Rattle.operation.proofs.Lines.{met-same, last}
 
 module _ (f : ℕ → ℕ) where
@@ -37,6 +38,11 @@ module _ (f : ℕ → ℕ) where
       let k = x .is in
       rw (occurs-marked k s) (also (test (not (named row k && (not (repeats k) && occurs k s))) 12 (x .mark) λ _. refl) (once-marked row (x ∷ s) xs))
 
+  sized-marked : (row : Row) (xs : List Item) → Moved (sized (named row) (map (remark f) xs)) (sized (named row) xs)
+  unfolding sized remark
+  sized-marked row [] = stays
+  sized-marked row (x ∷ xs) = also (test (not (named row (x .is)) || allows (sizes (x .is)) (x .size)) 26 (x .mark) λ _. refl) (sized-marked row xs)
+
   lines-marked : (row : Row) (xs : List Item) → Moved (present row (map (remark f) xs)) (present row xs) × Moved (single row (map (remark f) xs)) (single row xs)
   unfolding present single
   lines-marked [] xs = (stays, stays)
@@ -52,7 +58,7 @@ module _ (f : ℕ → ℕ) where
 
   pub marked : (row : Row) (xs : List Item) → judge row (map (remark f) xs) ≡ pointed f (judge row xs)
   unfolding judge
-  marked row xs = let (p, s) = lines-marked row xs in moved (also (also (once-marked row [] xs) p) s)
+  marked row xs = let (p, s) = lines-marked row xs in moved (also (also (also (once-marked row [] xs) (sized-marked row xs)) p) s)
 
   pub count-marked : (row : Row) (xs : List Item) → countNamed row (map (remark f) xs) ≡ countNamed row xs
   unfolding countNamed remark

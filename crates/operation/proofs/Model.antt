@@ -43,7 +43,7 @@ use Rattle.operation.specs.Demands.{RowFor, itsOperation, octetsFor, put
 use Rattle.operation.specs.Model.{reader, writer}
 use Rattle.operation.proofs.Readings.{same-operation, either-row, row-ends}
 use Rattle.operation.proofs.RowsFound.{has-row, has-none}
-use Rattle.operation.proofs.Keys.{keys-written, fits-read}
+use Rattle.operation.proofs.Keys.{fits-read}
 use Rattle.operation.proofs.RowFaults.{row-faulty, row-either}
 use Rattle.operation.proofs.Again.{inner, composes-again, same-or-shorter}
 use Rattle.operation.proofs.OnlyOne.{reader-accepts, refused-so, ready, writer-refuses, writer-accepts}
@@ -132,8 +132,7 @@ module _ (o : Order) where
 
     fits-or-not : Ready o → {row : Row} → RowFor (o .kind) (o .code .first) row → Outcome
     fits-or-not r {row} e =
-        ⊎-elim (λ (n, d, f). inr (n, d, WriterRefuses.misfit r e f)) (λ k.
-        let f = rw (keys-written 0 (ordered o)) at k in
+        ⊎-elim (λ (n, d, f). inr (n, d, WriterRefuses.misfit r e f)) (λ f.
         ask (decLe (needed o) (length out))
         (λ h. inl (row, record { ready = r; has-row = e; fits = f; room = h }))
         (λ n. inr (17, needed o, WriterRefuses.no-room r e f (omega arith)))) (row-either row (itemsOf 0 (ordered o)))

@@ -12,10 +12,8 @@ use native.Mathlib.Numerals.{add-one}
 use Rattle.operation.specs.Row.{Row, named, repeats}
 use Rattle.operation.specs.Judge.{occurs}
 use Rattle.operation.specs.inner.Coded.{holds, Names, itemAt, itemsFrom}
-use Rattle.operation.specs.inner.Firsts.{onceCounted}
 use Rattle.operation.proofs.Entries as E
 use Rattle.operation.proofs.Entries.{rest, earlier, all, over, more}
-use Rattle.operation.proofs.Repeats.{left}
 use Rattle.operation.proofs.Repeats as R
 use Rattle.operation.proofs.Lines.{each, self}
 use Rattle.operation.proofs.Sets.{empty, one-more}
@@ -42,10 +40,6 @@ module _ (names t : List ℕ) where
   abbrev pub Notes : (seen : List ℕ) (at : ℕ) → Type 0
   Notes seen at = (k : ℕ) → holds seen k ≡ (holds names k && occurs k (earlier t at))
 
-  -- and the answer is what is left of it, at any row that names these
-  abbrev pub Remains : (count named at : ℕ) → Type 0
-  Remains count n at = (row : Row) → Names row names → onceCounted row (itemsFrom t 0 count) ≡ left row t count n at
-
   pub none-noted : Notes (replicate 13 0) 0
   unfolding earlier occurs
   none-noted k = empty k ∙ sym (and-false (holds names k))
@@ -53,6 +47,9 @@ module _ (names t : List ℕ) where
   module _ (seen : List ℕ) (at : ℕ) (n : Notes seen at) where
     pub all-noted : {count : ℕ} → at ≤ count → count ≤ at → (row : Row) → Names row names → (k : ℕ) → holds seen k ≡ (named row k && occurs k (itemsFrom t 0 count))
     all-noted {count} g h row m k = n k ∙ rw (m k, whole t at count k g h)
+
+    pub occurred-before : (k : ℕ) → holds seen k ≡ true → true ≡ occurs k (earlier t at)
+    occurred-before k h = sym (each (holds names k) _ (sym (n k) ∙ h) .1)
 
     module _ {k : ℕ} (f : k ≡ itemAt t at .is) where
       -- with the entry at `at`

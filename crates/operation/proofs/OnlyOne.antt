@@ -35,8 +35,8 @@ use Rattle.operation.specs.Demands.{itsOperation, ReaderRefuses, Right, 
 use Rattle.operation.specs.Model.{reader, writer, written-as, OnlyOne}
 use Rattle.operation.proofs.Readings.{same-operation, either-row, anywhere, reads, no-row}
 use Rattle.operation.proofs.RowsFound.{its-row, no-row-found}
-use Rattle.operation.proofs.Keys.{counts-read, fits-read, fits-written}
-use Rattle.operation.proofs.RowFaults.{row-refuses}
+use Rattle.operation.proofs.Keys.{counts-read, fits-read}
+use Rattle.operation.proofs.RowFaults.{row-refuses, exact}
 
 -- 11 points wherever it is told to
 nowhere : (kind specifier : ℕ) → rowOf kind specifier 0 ≡ refused 11 0 → (at : ℕ) → rowOf kind specifier at ≡ refused 11 at
@@ -131,11 +131,11 @@ module _ (o : Order) where
   writer-refuses out (WriterRefuses.too-long h s k) = rw (held h (all-stand s), lt-leb _ _ k)
   writer-refuses out (WriterRefuses.no-row r e) = rw (ready r, no-row-found _ _ e)
   writer-refuses out (WriterRefuses.misfit r e f) = rw (ready r, its-row _ _ _ e, row-refuses f)
-  writer-refuses out (WriterRefuses.no-room r e f k) = rw (ready r, its-row _ _ _ e, fits-written _ 0 (ordered o) .1 f, lt-leb _ _ k)
+  writer-refuses out (WriterRefuses.no-room r e f k) = rw (ready r, its-row _ _ _ e, exact _ _ .1 f, lt-leb _ _ k)
 
   pub writer-accepts : (out : Octets) {row : Row} → Writable o out row → written-as o (length out) ≡ accepted (composed (made o))
   unfolding writing octetsOf
-  writer-accepts out {row} h = rw (ready (h .ready), its-row _ _ _ (h .has-row), fits-written row 0 (ordered o) .1 (h .fits), le-leb _ _ (h .room))
+  writer-accepts out {row} h = rw (ready (h .ready), its-row _ _ _ (h .has-row), exact row _ .1 (h .fits), le-leb _ _ (h .room))
 
 -- ---- there is no other
 module _ (r : Reader) (w : Writer) (first : Demand1 r w) (second : Demand2 r w) where

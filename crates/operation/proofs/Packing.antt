@@ -2,7 +2,7 @@
 use Prim.Native.Nat.{ℕ, zero, suc, _+_, _*_, _-_, _/_, _%_, _<_, _≤_}
 use mathlib.Core.Path.{_≡_, refl, sym, ap, subst, _∙_}
 use mathlib.Core.Bool.{Bool, true, false}
-use mathlib.Core.List.{List, [], _∷_, _++_, List·Memᴰ, List·Memᴰ·head, List·Memᴰ·tail, Memᴰ·of-map, Memᴰ·append-right}
+use mathlib.Core.List.{List, [], _∷_, _++_, List·Memᴰ, List·Memᴰ·head, Memᴰ·of-map, Memᴰ·append-right}
 use lib.ListN.{length, getD}
 use lib.Dec.{ltb, eqb}
 use borrow.Author.Tests.{ne-eqb, ltb-true}
@@ -11,22 +11,23 @@ use native.Mathlib.Omega.{arith}
 use Rattle.element.specs.Octets.{Octets, AreOctets, if}
 use Rattle.element.specs.Answer.{Answer, accepted, refused}
 use Rattle.element.proofs.Reading.{small}
-use Rattle.component.specs.Grammar.{Parameter, Component}
+use Rattle.component.specs.Grammar.{Component}
 use Rattle.component.specs.Table.{idOf, codeOf}
 use Rattle.component.specs.Onward.{keeps, answerOn}
 use Rattle.component.proofs.Details.{Given, listed, stands-in, id-octets, code-octets, two-octets, operation-in, needed-most}
 use Rattle.component.proofs.Typing.{two-at-most}
 use Rattle.operation.specs.Row.{Row, Line, Item, key, numberOf, asks}
 use Rattle.operation.specs.Rows.{Operation, operations}
-use Rattle.operation.specs.Faults.{First, RowFault, again, missing, both}
-use Rattle.operation.specs.Items.{itemOf, itemsOf}
+use Rattle.operation.specs.Faults.{First, RowFault, again, missized, missing, both}
+use Rattle.operation.specs.Items.{itemOf}
 use Rattle.operation.specs.Codes.{toldCode}
 use Rattle.operation.specs.Caller.{Told, Order}
 use Rattle.operation.specs.Demands.{RowFor, listed as in-the-book, unasked, ReaderRefuses, Right, tells, ordered, WriterRefuses}
 use Rattle.operation.specs.Model.{reader, writer}
 use Rattle.operation.specs.Packed.{octets, countsOf, toldOctets, packedReading, packedWriting, octetAt, unpackedReading, unpackedWriting, RefusalFits, ReadingFits, WritingFits, AreNumbers, Apart}
-use Rattle.operation.proofs.RowFaults.{last-in}
+use Rattle.operation.proofs.RowFaults.{first-in, last-in}
 use Rattle.operation.proofs.Lines.{all, of-all}
+use Rattle.operation.proofs.Marked.{inside}
 use Rattle.operation.proofs.OnlyOne.{reader-accepts}
 use Rattle.operation.proofs.Model.{counted, demand1-ours, demand2-ours}
 use Rattle.operation.proofs.Counts as counts
@@ -105,10 +106,6 @@ all-few : all row-few operations ≡ true
 unfolding all operations key numberOf asks
 all-few = refl
 
-first-in : {A : Type 0} {P : A → Type 0} {xs : List A} {x : A} → First P xs x → List·Memᴰ x xs
-first-in (First.here h) = List·Memᴰ·head refl
-first-in (First.later n f) = List·Memᴰ·tail (first-in f)
-
 no-line : {P : Line → Type 0} {xs : List Line} {l : Line} → First P xs l → xs ≡ [] → ⊥
 no-line (First.here h) e = omega (arith, ap length e)
 no-line (First.later n f) e = omega (arith, ap length e)
@@ -121,9 +118,10 @@ Small n d = Given n × (d < 65536)
 row-fits : {kind specifier : ℕ} {row : Row} {xs : List Item} {n d : ℕ} → RowFor kind specifier row →
     ((x : Item) → List·Memᴰ x xs → x .mark < 65536) → RowFault row xs n d → Small n d
 row-fits r marks (again before x behind e o n g t) = omega (arith, marks x (rw e (Memᴰ·append-right before (List·Memᴰ·head refl))))
-row-fits (in-the-book _ r) marks (missing {l} o f) = omega (arith, ltb-true (asks l) 65536 (of-all asks-few (first-in f) (of-all row-few r all-few)))
-row-fits (unasked _) marks (missing o f) = absurd (no-line f refl)
-row-fits r marks (both {x = x} o e f y) = omega (arith, marks x (last-in y))
+row-fits r marks (missized {x} o f) = omega (arith, marks x (first-in f))
+row-fits (in-the-book _ r) marks (missing {l} o s f) = omega (arith, ltb-true (asks l) 65536 (of-all asks-few (first-in f) (of-all row-few r all-few)))
+row-fits (unasked _) marks (missing o s f) = absurd (no-line f refl)
+row-fits r marks (both {x = x} o s e f y) = omega (arith, marks x (last-in y))
 
 pub refusal-small : {s : Octets} {given : ℕ} {t : List ℕ} {n d : ℕ} → ReaderRefuses s given t n d → Small n d
 unfolding itemOf
@@ -166,12 +164,6 @@ module _ (s : Octets) (o : AreOctets s) (given : ℕ) (h : given < 256) (t : Lis
   reader-fits (accepted x) e = fits-behind 0 (omega arith) (accepted x) e
   reader-fits (refused n d) e = omega (arith, refusal-small (demand1-ours .reader s given t o e .0))
 
--- the writer's marks count its entries
-marked : (i : ℕ) (ps : List Parameter) {x : Item} → List·Memᴰ x (itemsOf i ps) → x .mark < i + length ps
-unfolding itemsOf
-marked i (p ∷ ps) (List·Memᴰ·head q) = omega (arith, ap (λ x. x .mark) q)
-marked i (p ∷ ps) (List·Memᴰ·tail m) = omega (arith, marked (i + 1) ps m)
-
 module _ (o : Order) (numbers : AreNumbers (o .table)) (out : Octets) where
   order-fits : {n d : ℕ} → WriterRefuses o out n d → RefusalFits n d
   order-fits (WriterRefuses.no-type h) = omega arith
@@ -181,7 +173,7 @@ module _ (o : Order) (numbers : AreNumbers (o .table)) (out : Octets) where
   order-fits (WriterRefuses.no-entry h k s b) = omega arith
   order-fits (WriterRefuses.too-long h s k) = omega (arith, needed-most (o .table) (o .source) numbers (o .kind) (o .id .count) (o .count) (two-at-most (h .allowed)) (h .few))
   order-fits (WriterRefuses.no-row r e) = omega arith
-  order-fits (WriterRefuses.misfit r e f) = omega (arith, row-fits e (λ x m. omega (arith, r .held .few, marked 0 (ordered o) m, counted 0 (o .count) (o .table) (o .source))) f)
+  order-fits (WriterRefuses.misfit r e f) = omega (arith, row-fits e (λ x m. omega (arith, r .held .few, inside 0 (ordered o) m, counted 0 (o .count) (o .table) (o .source))) f)
   order-fits (WriterRefuses.no-room r e f k) = omega arith
 
   writer-fits : (a : Answer ℕ) → writer o out .answer ≡ a → WritingFits a

@@ -75,5 +75,6 @@ module _ (kind specifier count : ℕ) (t : List ℕ) where
       go (JV.Fits named) w = omega arith
       go JV.NoRow w = tt
       go (JV.Again entry) w = omega (arith, w (λ e. omega arith) (λ e. omega arith))
+      go (JV.WrongSize entry) w = omega (arith, w (λ e. omega arith) (λ e. omega arith))
       go (JV.Missing number) w = tt
       go (JV.Both entry) w = omega (arith, w (λ e. omega arith) (λ e. omega arith))

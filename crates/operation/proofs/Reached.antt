@@ -15,7 +15,7 @@ use Rattle.component.specs.Layout.{Layout, operationPlace}
 use Rattle.component.proofs.Entries.{numbers-length}
 use Rattle.operation.specs.Row.{Row, Item}
 use Rattle.operation.specs.Judge.{judge, countNamed, pointed}
-use Rattle.operation.specs.Faults.{RowFault, again, missing, both}
+use Rattle.operation.specs.Faults.{RowFault, again, missized, missing, both}
 use Rattle.operation.specs.inner.Coded.{itemsFrom, judgement, verdict}
 use Rattle.operation.specs.Items.{itemOf}
 use Rattle.operation.specs.Reading.{operationIn, countOther, shownBy, shownOf, tableAfter}
@@ -42,8 +42,9 @@ module _ (s : Octets) (given : ℕ) (z : List ℕ) (l : Layout) where
   module _ (row : Row) where
     not-eleven : {n d : ℕ} → RowFault row items n d → eqb n 11 ≡ false
     not-eleven (again before x behind p q r u v) = refl
-    not-eleven (missing q f) = refl
-    not-eleven (both q p f y) = refl
+    not-eleven (missized q f) = refl
+    not-eleven (missing q s f) = refl
+    not-eleven (both q s p f y) = refl
 
     by-place : judge row (map itemOf (l .entries)) ≡ pointed (λ i. held sheet i .place) (judge row items)
     by-place = rw (← placed-items (l .entries) z) (marked (λ i. held sheet i .place) row items)

@@ -11,10 +11,11 @@ use native.Mathlib.Omega.{arith}
 use Rattle.element.specs.Octets.{if}
 use Rattle.element.specs.Answer.{Answer, accepted, refused, _>>_, check}
 use Rattle.component.proofs.Ends.{Ends, gives, stops}
-use Rattle.operation.specs.Row.{Row, Line, must, oneOf, anyOf, may, asks, Item, members, someOf, among, onLine, named, repeats}
-use Rattle.operation.specs.Judge.{occurs, lastMark, once, met, present, doubled, single, judge}
-use Rattle.operation.specs.Book.{times, Kept, occurred, first, second, any, allowed, Each, none, more, Once, Fits}
-use Rattle.operation.specs.Faults.{keysOf, First, Last, Unmet, Doubled, RowFault, again, missing, both}
+use Rattle.operation.specs.Row.{Row, Line, must, oneOf, anyOf, may, asks, Item, members, someOf, among, onLine, named, repeats, allows}
+use Rattle.operation.specs.Rows.{sizes}
+use Rattle.operation.specs.Judge.{occurs, lastMark, once, sized, met, present, doubled, single, judge}
+use Rattle.operation.specs.Book.{keysOf, times, Kept, occurred, first, second, any, allowed, Each, none, more, Once, Sized, Fits}
+use Rattle.operation.specs.Faults.{First, Last, Unmet, Doubled, Missized, RowFault, again, missized, missing, both}
 use Rattle.operation.proofs.Lines.{or-false, each, of-each, self}
 
 -- ---- what occurs
@@ -94,6 +95,48 @@ module _ (row : Row) where
   once-refuses seen (y ∷ before) x behind h n r o =
       rw (pass _ _ _ (fresh seen y before h))
       (once-refuses (y ∷ seen) before x behind (onward seen y before h) n r (rw (moved (eqb (y .is) (x .is)) (times (x .is) (keysOf seen)) (times (x .is) (keysOf before))) o))
+
+-- ---- 26
+module _ (row : Row) where
+  -- a test of one item: it is of a size fixed for it, or the row names it and it is not
+  right : (x : Item) → Sized row x → (not (named row (x .is)) || allows (sizes (x .is)) (x .size)) ≡ true
+  right x = go (named row (x .is))
+    where
+      go : (t : Bool) {u : Bool} → (t ≡ true → u ≡ true) → (not t || u) ≡ true
+      go true h = h refl
+      go false h = refl
+
+  either-size : (x : Item) → Missized row x ⊎ Sized row x
+  either-size x = go (named row (x .is)) (allows (sizes (x .is)) (x .size))
+    where
+      go : (t u : Bool) → ((t ≡ true) × (u ≡ false)) ⊎ (t ≡ true → u ≡ true)
+      go true true = inr λ _. refl
+      go true false = inl (refl, refl)
+      go false u = inr λ e. absurd (true≢false (sym e))
+
+  pub not-missized : (x : Item) → (Missized row x → ⊥) → Sized row x
+  not-missized x h = ⊎-elim (λ m. absurd (h m)) (λ s. s) (either-size x)
+
+  sized-passes : {xs : List Item} → Each (Sized row) xs → sized (named row) xs ≡ accepted tt
+  unfolding sized
+  sized-passes none = refl
+  sized-passes (more {x = x} s e) = rw (right x s) (sized-passes e)
+
+  sized-refuses : {xs : List Item} {x : Item} → First (Missized row) xs x → sized (named row) xs ≡ refused 26 (x .mark)
+  unfolding sized
+  sized-refuses (First.here (n, a)) = rw (n, a)
+  sized-refuses (First.later {y = y} h f) = rw (right y (not-missized y h)) (sized-refuses f)
+
+  -- the first of a wrong size, or none
+  find-missized : (xs : List Item) → ((x : Item) × First (Missized row) xs x) ⊎ Each (Sized row) xs
+  find-missized [] = inr none
+  find-missized (y ∷ ys) = go (either-size y) (find-missized ys)
+    where
+      go : Missized row y ⊎ Sized row y → ((x : Item) × First (Missized row) ys x) ⊎ Each (Sized row) ys →
+          ((x : Item) × First (Missized row) (y ∷ ys) x) ⊎ Each (Sized row) (y ∷ ys)
+      go (inl m) r = inl (y, First.here m)
+      go (inr s) (inl (x, f)) = inl (x, First.later (λ (n, a). true≢false (sym (s n) ∙ a)) f)
+      go (inr s) (inr e) = inr (more s e)
 
 -- ---- 13
 module _ (xs : List Item) where
@@ -180,8 +223,9 @@ module _ {row : Row} {xs : List Item} where
   pub row-refuses : {n d : ℕ} → RowFault row xs n d → judge row xs ≡ refused n d
   unfolding judge times
   row-refuses (again before x behind e o n r t) = rw (e, once-refuses row [] before x behind (λ k p q. omega (arith, o k p q)) n r (omega arith))
-  row-refuses (missing o f) = rw (once-passes row [] xs (λ k p q. omega (arith, o k p q)), present-refuses xs f)
-  row-refuses (both o e f y) = rw (once-passes row [] xs (λ k p q. omega (arith, o k p q)), present-passes xs e, single-refuses xs f y)
+  row-refuses (missized o f) = rw (once-passes row [] xs (λ k p q. omega (arith, o k p q)), sized-refuses row f)
+  row-refuses (missing o s f) = rw (once-passes row [] xs (λ k p q. omega (arith, o k p q)), sized-passes row s, present-refuses xs f)
+  row-refuses (both o s e f y) = rw (once-passes row [] xs (λ k p q. omega (arith, o k p q)), sized-passes row s, present-passes xs e, single-refuses xs f y)
 
 -- ---- and back: what is refused has the fault
 times-last : (k : ℕ) (before : List Item) (y : Item) → times k (keysOf (before ++ (y ∷ []))) ≡ times k (keysOf (y ∷ before))
@@ -317,32 +361,34 @@ module _ (row : Row) (xs : List Item) where
   later-of (may j) h = absurd h
 
   abbrev Outcome : Type 0
-  Outcome = ((n : ℕ) × (d : ℕ) × RowFault row xs n d) ⊎ Fits row (keysOf xs)
+  Outcome = ((n : ℕ) × (d : ℕ) × RowFault row xs n d) ⊎ Fits row xs
 
   pub row-either : Outcome
   unfolding times
   row-either = go (once-ends row xs [] [] xs refl (λ k. refl) λ k _ _. omega arith)
     where
-      lines : Once row (keysOf xs) → ((l : Line) × First (Unmet (keysOf xs)) row l) ⊎ Each (λ l. Unmet (keysOf xs) l → ⊥) row →
+      lines : Once row (keysOf xs) → ((x : Item) × First (Missized row) xs x) ⊎ Each (Sized row) xs →
+          ((l : Line) × First (Unmet (keysOf xs)) row l) ⊎ Each (λ l. Unmet (keysOf xs) l → ⊥) row →
           ((l : Line) × First (Doubled (keysOf xs)) row l) ⊎ Each (λ l. Doubled (keysOf xs) l → ⊥) row → Outcome
-      lines o (inl (l, f)) r = inl (13, asks l, missing o f)
-      lines o (inr e) (inl (l, f)) = let (x, y) = later-of l (first-holds f) in inl (14, x .mark, both o e f y)
-      lines o (inr e) (inr f) = inr (record { kept = all-kept e f; once = o })
+      lines o (inl (x, f)) q r = inl (26, x .mark, missized o f)
+      lines o (inr s) (inl (l, f)) r = inl (13, asks l, missing o s f)
+      lines o (inr s) (inr e) (inl (l, f)) = let (x, y) = later-of l (first-holds f) in inl (14, x .mark, both o s e f y)
+      lines o (inr s) (inr e) (inr f) = inr (record { kept = all-kept e f; once = o; sized = s })
 
       go : {a : Answer Unit} → Ends (λ _. Once row (keysOf xs)) (RowFault row xs) a → Outcome
-      go (gives o) = lines o (find-first (absent-line xs) row) (find-first (doubled-line xs) row)
+      go (gives o) = lines o (find-missized row xs) (find-first (absent-line xs) row) (find-first (doubled-line xs) row)
       go (stops {n} {d} f) = inl (n, d, f)
 
-  row-accepts : Fits row (keysOf xs) → judge row xs ≡ accepted tt
+  row-accepts : Fits row xs → judge row xs ≡ accepted tt
   unfolding judge times
   row-accepts f =
       let (e, s) = none-wrong (f .kept) in
-      rw (once-passes row [] xs (λ k p q. omega (arith, f .once k p q)), present-passes xs e, single-passes xs s)
+      rw (once-passes row [] xs (λ k p q. omega (arith, f .once k p q)), sized-passes row (f .sized), present-passes xs e, single-passes xs s)
 
-  pub exact : (judge row xs ≡ accepted tt) ↔ Fits row (keysOf xs)
+  pub exact : (judge row xs ≡ accepted tt) ↔ Fits row xs
   exact = (λ e. go e row-either, row-accepts)
     where
-      go : judge row xs ≡ accepted tt → Outcome → Fits row (keysOf xs)
+      go : judge row xs ≡ accepted tt → Outcome → Fits row xs
       go e (inl (n, d, f)) = let g = row-refuses f in let z : _≡_ {A = ℕ} 0 1 = cc in absurd (omega arith)
       go e (inr f) = f
 
@@ -362,7 +408,12 @@ pub last-in : {P : Item → Type 0} {xs : List Item} {x : Item} → Last P xs x 
 last-in (Last.here h e) = List·Memᴰ·head refl
 last-in (Last.later f) = List·Memᴰ·tail (last-in f)
 
+pub first-in : {A : Type 0} {P : A → Type 0} {xs : List A} {x : A} → First P xs x → List·Memᴰ x xs
+first-in (First.here h) = List·Memᴰ·head refl
+first-in (First.later n f) = List·Memᴰ·tail (first-in f)
+
 pub pointed-at : {row : Row} {xs : List Item} {n d : ℕ} → RowFault row xs n d → (n ≡ 13 → ⊥) → (x : Item) × List·Memᴰ x xs × (x .mark ≡ d)
 pointed-at (again before x behind e o n r t) h = (x, rw e (Memᴰ·append-right before (List·Memᴰ·head refl)), refl)
-pointed-at (missing o f) h = absurd (h refl)
-pointed-at (both {x = x} o e f y) h = (x, last-in y, refl)
+pointed-at (missized {x} o f) h = (x, first-in f, refl)
+pointed-at (missing o s f) h = absurd (h refl)
+pointed-at (both {x = x} o s e f y) h = (x, last-in y, refl)

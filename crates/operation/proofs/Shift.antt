@@ -18,7 +18,7 @@ use Rattle.operation.specs.Row.{Row, Item}
 use Rattle.operation.specs.Judge.{judge, pointed, remark}
 use Rattle.operation.specs.Finding.{rowOf}
 use Rattle.operation.specs.Items.{itemOf}
-use Rattle.operation.specs.Faults.{RowFault, again, missing}
+use Rattle.operation.specs.Faults.{RowFault, again, missized, missing}
 use Rattle.operation.specs.Faults as F
 use Rattle.operation.specs.Reading.{operationIn, countOther, shownOf, readingFrom}
 use Rattle.operation.specs.Inside.{shownOn, Shifts}
@@ -60,8 +60,9 @@ module _ (pre c : Octets) where
 
   pointing : {row : Row} {xs : List Item} {k d : ℕ} → RowFault row xs k d → Detail n k d (if (eqb k 13) d (n + d))
   pointing (again before x behind e o m r u) = on refl refl
-  pointing (missing o f) = kept refl
-  pointing (F.both o e f y) = on refl refl
+  pointing (missized o f) = on refl refl
+  pointing (missing o s f) = kept refl
+  pointing (F.both o s e f y) = on refl refl
 
   judged-on : (row : Row) (xs : List Item) → On n Any (judge row xs) (judge row (map (remark (λ d. n + d)) xs))
   unfolding pointed

@@ -1,9 +1,8 @@
 -- Demand 3 of ours: a component with newcomers that its row does not name is read as without them.
-use Prim.Native.Nat.{ℕ, _+_, _≤_}
+use Prim.Native.Nat.{ℕ, _+_, _<_, _≤_}
 use mathlib.Core.Path.{_≡_, refl, ap, _∙_}
 use mathlib.Core.Bool.{Bool, true, false, not}
-use mathlib.Core.List.{List, map}
-use mathlib.Core.Logic.{inl, inr}
+use mathlib.Core.List.{List, map, List·Memᴰ·head, List·Memᴰ·tail}
 use lib.ListN.{length}
 use lib.Dec.{eqb}
 use native.Mathlib.Omega.{arith}
@@ -16,13 +15,13 @@ use Rattle.component.specs.Standing.{Shows, Pairwise, standing}
 use Rattle.component.proofs.Shown.{standing-show}
 use Rattle.operation.specs.Row.{Row, named as names}
 use Rattle.operation.specs.Judge.{judge, pointed}
-use Rattle.operation.specs.Faults.{RowFault, again, missing, both}
-use Rattle.operation.specs.Items.{itemOf}
+use Rattle.operation.specs.Faults.{RowFault, again, missized, missing, both}
+use Rattle.operation.specs.Items.{itemOf, itemsOf}
 use Rattle.operation.specs.Caller.{read}
 use Rattle.operation.specs.Demands.{itsOperation, RowFor, keyOf, tally, ReaderRefuses, tells, Joined, done, kept, newcomer, moved, newcomers, joined, placeIn, Truthful, both-accepted, same-missing, same-parameter, Demand3}
 use Rattle.operation.specs.Model.{reader, Ours}
 use Rattle.operation.proofs.Untouched.{untouched}
-use Rattle.operation.proofs.Marked.{indexed, judged, inside, items, grown}
+use Rattle.operation.proofs.Marked.{judged, inside, items, grown}
 use Rattle.operation.proofs.Keys.{fits-read}
 use Rattle.operation.proofs.RowFaults.{row-faulty, pointed-at}
 use Rattle.operation.proofs.Model.{demand1-ours, demand2-ours}
@@ -76,26 +75,29 @@ module _ (given : ℕ) (t : List ℕ) (enough : tableSize ≤ length t) {row : R
     its-row : RowFor (d .kind) (itsOperation d given) row
     its-row = rw (kind, code) e
 
-    older : judge row (map itemOf (standing (h .laid))) ≡ pointed f (judge row (indexed (c .parameters)))
+    older : judge row (map itemOf (standing (h .laid))) ≡ pointed f (judge row (itemsOf 0 (c .parameters)))
     older = rw (items (shows o h e) .0) (judged row f (c .parameters))
 
-    newer : judge row (map itemOf (standing (k .laid))) ≡ pointed g (judge row (indexed (c .parameters)))
+    newer : judge row (map itemOf (standing (k .laid))) ≡ pointed g (judge row (itemsOf 0 (c .parameters)))
     newer = rw (items (shows b k its-row) .0) (untouched row _ _ (grown (placeIn (standing (k .laid))) j) ∙ judged row g (c .parameters))
 
     told-more : tells given d row ≡ joined (tells given c row) (newcomers j)
     told-more = rw (code, kind, id, more-parameters j, as-many-named j, more-others j)
 
-    refused-both : (n i : ℕ) → RowFault row (indexed (c .parameters)) n i →
+    standing-in : {n i : ℕ} → RowFault row (itemsOf 0 (c .parameters)) n i → (n ≡ 13 → ⊥) → i < length (c .parameters)
+    standing-in f h = let (y, mem, mark) = pointed-at f h in omega (arith, inside 0 (c .parameters) mem)
+
+    refused-both : (n i : ℕ) → RowFault row (itemsOf 0 (c .parameters)) n i →
         Truthful (h .laid) (k .laid) j t (read (refused n (if (eqb n 13) i (f i))) t) (read (refused n (if (eqb n 13) i (g i))) t)
     refused-both n i (again before x behind e o m r u) =
-        let (y, mem, mark) = pointed-at (again before x behind e o m r u) (λ z. omega arith) in
-        (same-parameter 12 (x .mark) (inl refl) (rw mark at (inside (c .parameters) mem)))
-    refused-both n i (missing _ _) = same-missing _
-    refused-both n i (both {x = x} o e p y) =
-        let (z, mem, mark) = pointed-at (both o e p y) (λ z. omega arith) in
-        (same-parameter 14 (x .mark) (inr refl) (rw mark at (inside (c .parameters) mem)))
+        same-parameter 12 (x .mark) (List·Memᴰ·head refl) (standing-in (again before x behind e o m r u) λ z. omega arith)
+    refused-both n i (missized {x} o f) =
+        same-parameter 26 (x .mark) (List·Memᴰ·tail (List·Memᴰ·head refl)) (standing-in (missized o f) λ z. omega arith)
+    refused-both n i (missing _ _ _) = same-missing _
+    refused-both n i (both {x = x} o s e p y) =
+        same-parameter 14 (x .mark) (List·Memᴰ·tail (List·Memᴰ·tail (List·Memᴰ·head refl))) (standing-in (both o s e p y) λ z. omega arith)
 
-    verdict : (a : Answer Unit) → judge row (indexed (c .parameters)) ≡ a → Truthful (h .laid) (k .laid) j t (reader s given t) (reader u given t)
+    verdict : (a : Answer Unit) → judge row (itemsOf 0 (c .parameters)) ≡ a → Truthful (h .laid) (k .laid) j t (reader s given t) (reader u given t)
     unfolding pointed
     verdict (accepted _) q =
         let p = all-right o h e (older ∙ ap (pointed f) q) in

@@ -5,7 +5,7 @@ use mathlib.Core.Bool.{Bool, true, false, _&&_, true≢false}
 use mathlib.Core.List.{List, [], _∷_}
 use borrow.Author.Tests.{ne-eqb}
 use Rattle.operation.specs.Row.{Row, Line, Item, onLine, named}
-use Rattle.operation.specs.Judge.{occurs, lastMark, once, present, single, judge, countNamed}
+use Rattle.operation.specs.Judge.{occurs, lastMark, once, sized, present, single, judge, countNamed}
 use Rattle.operation.proofs.Newcomers.{Grown, done, kept, newcomer}
 use Rattle.operation.proofs.Lines.{or-false, met-same}
 
@@ -25,6 +25,12 @@ unfolding once
 once-same s done = refl
 once-same {row} s (kept x g) = rw (only (named row (x .is)) _ (same s (x .is)), once-same (kept x s) g)
 once-same s (newcomer x e g) = rw e (once-same (newcomer x e s) g)
+
+sized-same : {row : Row} {xs ys : List Item} → Grown row xs ys → sized (named row) ys ≡ sized (named row) xs
+unfolding sized
+sized-same done = refl
+sized-same (kept x g) = rw (sized-same g)
+sized-same (newcomer x e g) = rw e (sized-same g)
 
 narrow : {l : Line} {ls : Row} {xs ys : List Item} → Grown (l ∷ ls) xs ys → Grown ls xs ys
 unfolding named
@@ -48,7 +54,7 @@ lines-same (l ∷ ls) {xs} {ys} g =
 
 pub untouched : (row : Row) (xs ys : List Item) → Grown row xs ys → judge row ys ≡ judge row xs
 unfolding judge
-untouched row xs ys g = let (p, s) = lines-same row g in rw (once-same done g, p, s)
+untouched row xs ys g = let (p, s) = lines-same row g in rw (once-same done g, sized-same g, p, s)
 
 pub counted : {row : Row} {xs ys : List Item} → Grown row xs ys → countNamed row ys ≡ countNamed row xs
 unfolding countNamed

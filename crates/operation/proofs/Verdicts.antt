@@ -1,49 +1,45 @@
 -- The searches for a first fault, one behind the other, against the judgement; and the rows of the code against those of the paper.
 -- Assumes nothing.
 use Prim.Native.Nat.{ℕ}
-use mathlib.Core.Path.{_≡_, refl}
+use mathlib.Core.Path.{_≡_, refl, _∙_}
 use mathlib.Core.List.{List, [], _∷_}
 use borrow.Author.Tests.{ne-eqb}
 use Rattle.element.specs.Answer.{Answer, accepted, refused, _>>_}
 use Rattle.operation.specs.Row.{Row, Item, named}
-use Rattle.operation.specs.Judge.{once, present, single, judge, countNamed}
+use Rattle.operation.specs.Judge.{once, sized, present, single, judge, countNamed}
 use Rattle.operation.specs.Finding.{rowed, rowOf, find}
 use Rattle.operation.specs.Rows.{operations}
 use Rattle.operation.specs.inner.Coded.{judgement, verdict, NoneOf}
-use Rattle.operation.specs.inner.Firsts.{onceCounted}
+use Rattle.operation.specs.inner.Firsts.{Clear}
+use Rattle.operation.specs.declared.Notes as N
 
 -- ---- the searches
 
-stands : (a b c : Answer Unit) (m : ℕ) {n d : ℕ} → refused n d ≡ (a >> accepted m) → refused n d ≡ ((a >> b >> c) >> accepted m)
-stands (accepted u) b c m h = cc
-stands (refused i j) b c m h = h
-
-goes-on : (a : Answer Unit) (m : ℕ) {n : ℕ} → accepted n ≡ (a >> accepted m) → (a ≡ accepted tt) × (n ≡ m)
-goes-on (accepted u) m h = (refl, cc)
-goes-on (refused i j) m h = (cc, cc)
-
 module _ (row : Row) (xs : List Item) where
-  pub again : {d : ℕ} → refused 12 d ≡ onceCounted row xs → refused 12 d ≡ judgement row xs
-  unfolding onceCounted judgement judge
-  again h = stands (once row [] xs) (present row xs) (single row xs) (countNamed row xs) h
+  -- 12, or else 26
+  pub faulty : {stop : ℕ} → (once row [] xs ≡ accepted tt → sized (named row) xs ≡ refused 26 stop) → {r : Answer ℕ} →
+      r ≡ (once row [] xs >> refused 26 stop) → r ≡ judgement row xs
+  unfolding judgement judge
+  faulty {stop} h {r} e = e ∙ go (once row [] xs) refl
+    where
+      go : (a : Answer Unit) → once row [] xs ≡ a →
+          _≡_ {A = Answer ℕ} (a >> refused 26 stop) ((a >> sized (named row) xs >> present row xs >> single row xs) >> accepted (countNamed row xs))
+      go (accepted u) q = rw (h q)
+      go (refused n d) q = refl
 
-  module _ {n : ℕ} (h : accepted n ≡ onceCounted row xs) where
-    passed : (once row [] xs ≡ accepted tt) × (n ≡ countNamed row xs)
-    unfolding onceCounted
-    passed = goes-on (once row [] xs) (countNamed row xs) h
-
+  module _ (notes : N.Notes) (c : Clear row notes xs) where
     pub missing : {d : ℕ} → refused 13 d ≡ present row xs → refused 13 d ≡ judgement row xs
     unfolding judgement judge
-    missing p = rw (passed .0, ← p)
+    missing p = rw (c .again, c .right, ← p)
 
     module _ (p : accepted tt ≡ present row xs) where
       pub both : {d : ℕ} → refused 14 d ≡ single row xs → refused 14 d ≡ judgement row xs
       unfolding judgement judge
-      both s = rw (passed .0, ← p, ← s)
+      both s = rw (c .again, c .right, ← p, ← s)
 
-      pub fits : accepted tt ≡ single row xs → accepted n ≡ judgement row xs
+      pub fits : accepted tt ≡ single row xs → accepted (notes .named) ≡ judgement row xs
       unfolding judgement judge
-      fits s = rw (passed .0, ← p, ← s, passed .1)
+      fits s = rw (c .again, c .right, ← p, ← s, c .counted)
 
 -- ---- the rows
 
@@ -52,6 +48,11 @@ nothing-again : (seen xs : List Item) → once [] seen xs ≡ accepted tt
 unfolding once named
 nothing-again seen [] = refl
 nothing-again seen (x ∷ xs) = nothing-again (x ∷ seen) xs
+
+nothing-sized : (xs : List Item) → sized (named []) xs ≡ accepted tt
+unfolding sized named
+nothing-sized [] = refl
+nothing-sized (x ∷ xs) = nothing-sized xs
 
 none-named : (xs : List Item) → countNamed [] xs ≡ 0
 unfolding countNamed named
@@ -81,4 +82,4 @@ module _ (xs : List Item) where
   -- at a type that has no rows
   pub no-kind : {kind : ℕ} (specifier : ℕ) → NoneOf kind (0xEA ∷ 0xE9 ∷ []) → accepted 0 ≡ verdict kind specifier xs
   unfolding verdict judgement judge present single rowOf rowed
-  no-kind {kind} specifier ((_, i), r) = rw (ne-eqb kind 0xE9 i, ne-eqb kind 0xEA r, nothing-again [] xs, none-named xs)
+  no-kind {kind} specifier ((_, i), r) = rw (ne-eqb kind 0xE9 i, ne-eqb kind 0xEA r, nothing-again [] xs, nothing-sized xs, none-named xs)

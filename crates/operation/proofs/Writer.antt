@@ -17,6 +17,8 @@ use Rattle.element.specs.Output.{written, outputAfter}
 use Rattle.component.specs.Needed.{octetsNeeded}
 use Rattle.component.proofs.Taken.{taken, passed, stopped}
 use Rattle.component.proofs.Measuring.{sizesOf, ready}
+use Rattle.component.proofs.Entries.{stands}
+use Rattle.component.proofs.Putting.{part-length}
 use denote.Enum.Declared.{tagOf}
 use types.Run.{OneOf}
 use Rattle.operation.specs.declared.Judged as J
@@ -37,7 +39,7 @@ same-items t source i (suc n) {ps} e =
     let (a, f) = passed (entryStands source (held t i)) 16 i e in
     let (qs, g, h) = taken (entriesFrom (i + 1) n t source) f in
     let k : parameterOf source (held t i) ∷ qs ≡ ps = cc in
-    rw (← k) (ap (λ xs. itemAt t i ∷ xs) (same-items t source (i + 1) n g))
+    rw (← k, part-length source (held t i .start) (held t i .size) (stands a .content)) (ap (λ xs. itemAt t i ∷ xs) (same-items t source (i + 1) n g))
 
 module _ (kind specifier count : ℕ) (t : List ℕ) where
   pub many : 64 < count → accepted 0 ≡ said kind specifier count t
@@ -139,10 +141,11 @@ module _ (kind : ℕ) (id : D.Id) (code : E.Code) (count : ℕ) (t : List ℕ) (
     measure-refuses e = unchanged (not-measured kind id code count t source (λ ps. octetsOf kind id code ps (length out)) e)
 
     -- what is not the first case of the engine's answer is a refusal
-    pub row-answers : {sizes : Sizes} → accepted sizes ≡ measured kind id count t source → (j : J.Judged) → OneOf (1 ∷ 2 ∷ 3 ∷ 4 ∷ []) (tagOf Judged.the-type j) →
+    pub row-answers : {sizes : Sizes} → accepted sizes ≡ measured kind id count t source → (j : J.Judged) → OneOf (1 ∷ 2 ∷ 3 ∷ 4 ∷ 5 ∷ []) (tagOf Judged.the-type j) →
         judgedIn j ≡ said kind (code .first) count t → Outcome (judgedIn j) out
-    row-answers e (JV.Fits named) k f = absurd (⊎-elim (λ z. omega arith) (⊎-elim (λ z. omega arith) (⊎-elim (λ z. omega arith) (λ z. omega arith))) k)
+    row-answers e (JV.Fits named) k f = absurd (⊎-elim (λ z. omega arith) (⊎-elim (λ z. omega arith) (⊎-elim (λ z. omega arith) (⊎-elim (λ z. omega arith) (λ z. omega arith)))) k)
     row-answers e JV.NoRow k f = row-refuses e f
     row-answers e (JV.Again entry) k f = row-refuses e f
+    row-answers e (JV.WrongSize entry) k f = row-refuses e f
     row-answers e (JV.Missing number) k f = row-refuses e f
     row-answers e (JV.Both entry) k f = row-refuses e f

@@ -1,11 +1,16 @@
--- The parameter table of an operation as the book words it: how often each identifier occurs, with no order of checks.
+-- The parameter table of an operation as the book words it: how often each identifier occurs, and of which size, with
+-- no order of checks.
 use Prim.Native.Nat.{ℕ, _+_, _≤_}
 use mathlib.Core.Path.{_≡_}
 use mathlib.Core.Bool.{true, false}
-use mathlib.Core.List.{List, [], _∷_, List·Memᴰ}
+use mathlib.Core.List.{List, [], _∷_, map, List·Memᴰ}
 use lib.Dec.{eqb}
 use Rattle.element.specs.Octets.{if}
-use Rattle.operation.specs.Row.{Row, Line, must, oneOf, anyOf, may, named, repeats}
+use Rattle.operation.specs.Row.{Row, Line, must, oneOf, anyOf, may, named, repeats, allows, Item}
+use Rattle.operation.specs.Rows.{sizes}
+
+abbrev pub keysOf : List Item → List ℕ
+keysOf = map λ x. x .is
 
 unfoldable pub times : ℕ → List ℕ → ℕ
 times k [] = 0
@@ -27,6 +32,11 @@ pub data Each {A : Type 0} (P : A → Type 0) : List A → Type 0 where
 abbrev pub Once : Row → List ℕ → Type 0
 Once row ks = (k : ℕ) → named row k ≡ true → repeats k ≡ false → times k ks ≤ 1
 
-pub record Fits (row : Row) (ks : List ℕ) : Type 0 where
-  pub kept : Each (Kept ks) row
-  pub once : Once row ks
+-- what the row names, of a size that is fixed for it
+abbrev pub Sized : Row → Item → Type 0
+Sized row x = named row (x .is) ≡ true → allows (sizes (x .is)) (x .size) ≡ true
+
+pub record Fits (row : Row) (xs : List Item) : Type 0 where
+  pub kept : Each (Kept (keysOf xs)) row
+  pub once : Once row (keysOf xs)
+  pub sized : Each (Sized row) xs

@@ -84,7 +84,7 @@ pub record Right (s : Octets) (given : ℕ) (t : List ℕ) (c : Component) (row 
   pub enough : tableSize ≤ length t
   pub laid-out : LaidOut c s
   pub has-row : RowFor (c .kind) (itsOperation c given) row
-  pub fits : Fits row (map keyOf (c .parameters))
+  pub fits : Fits row (itemsOf 0 (c .parameters))
 
 -- what is told of it: the counts are those that the row makes
 abbrev pub tells : (given : ℕ) → Component → Row → Told
@@ -138,13 +138,13 @@ pub data WriterRefuses (o : Order) (out : Octets) : (number detail : ℕ) → Ty
   no-row : Ready o → NoRow (o .kind) (o .code .first) → WriterRefuses o out 11 0
   misfit : {row : Row} {n d : ℕ} → Ready o → RowFor (o .kind) (o .code .first) row →
       RowFault row (itemsOf 0 (ordered o)) n d → WriterRefuses o out n d
-  no-room : {row : Row} → Ready o → RowFor (o .kind) (o .code .first) row → Fits row (map keyOf (ordered o)) →
+  no-room : {row : Row} → Ready o → RowFor (o .kind) (o .code .first) row → Fits row (itemsOf 0 (ordered o)) →
       length out < needed o → WriterRefuses o out 17 (needed o)
 
 pub record Writable (o : Order) (out : Octets) (row : Row) : Type 0 where
   pub ready : Ready o
   pub has-row : RowFor (o .kind) (o .code .first) row
-  pub fits : Fits row (map keyOf (ordered o))
+  pub fits : Fits row (itemsOf 0 (ordered o))
   pub room : needed o ≤ length out
 
 -- ---- demand 1: a refusal is the one on the paper's list, and changes nothing
@@ -248,7 +248,7 @@ pub data Truthful {c d : Component} {s u : Octets} (x : Laid c s) (y : Laid d u)
   both-accepted : (a : Told) → Truthful x y j t (read (accepted a) (tableWith (standing x) t))
       (read (accepted (joined a (newcomers j))) (tableWith (standing y) t))
   same-missing : (number : ℕ) → Truthful x y j t (read (refused 13 number) t) (read (refused 13 number) t)
-  same-parameter : (n i : ℕ) → (n ≡ 12) ⊎ (n ≡ 14) → i < length (c .parameters) → Truthful x y j t
+  same-parameter : (n i : ℕ) → List·Memᴰ n (12 ∷ 26 ∷ 14 ∷ []) → i < length (c .parameters) → Truthful x y j t
       (read (refused n (placeIn (standing x) i)) t) (read (refused n (placeIn (standing y) (moved j i))) t)
 
 pub record Demand3 (r : Reader) : Type 0 where

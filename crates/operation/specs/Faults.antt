@@ -2,12 +2,10 @@
 use Prim.Native.Nat.{ℕ, _≤_}
 use mathlib.Core.Path.{_≡_}
 use mathlib.Core.Bool.{true, false}
-use mathlib.Core.List.{List, _∷_, _++_, map}
-use Rattle.operation.specs.Row.{Row, Line, must, oneOf, anyOf, may, asks, Item, onLine, named, repeats}
-use Rattle.operation.specs.Book.{times, Each, Once}
-
-abbrev pub keysOf : List Item → List ℕ
-keysOf = map λ x. x .is
+use mathlib.Core.List.{List, _∷_, _++_}
+use Rattle.operation.specs.Row.{Row, Line, must, oneOf, anyOf, may, asks, Item, onLine, named, repeats, allows}
+use Rattle.operation.specs.Rows.{sizes}
+use Rattle.operation.specs.Book.{keysOf, times, Each, Once, Sized}
 
 -- ---- the first and the last of a list of which `P` holds
 pub data First {A : Type 0} (P : A → Type 0) : List A → A → Type 0 where
@@ -33,14 +31,21 @@ Doubled ks (oneOf i j) = (1 ≤ times i ks) × (1 ≤ times j ks)
 Doubled ks (anyOf i js) = ⊥
 Doubled ks (may j) = ⊥
 
+-- the row names it, and its size is none of those fixed for it
+abbrev pub Missized : Row → Item → Type 0
+Missized row x = (named row (x .is) ≡ true) × (allows (sizes (x .is)) (x .size) ≡ false)
+
 pub data RowFault (row : Row) (xs : List Item) : (number detail : ℕ) → Type 0 where
   -- 12: the earliest second; what stands before it has none
   again : (before : List Item) (x : Item) (behind : List Item) → xs ≡ before ++ (x ∷ behind) → Once row (keysOf before)
       → named row (x .is) ≡ true → repeats (x .is) ≡ false → 1 ≤ times (x .is) (keysOf before) →
       RowFault row xs 12 (x .mark)
-  -- 13: no second, and the first line in row order that nothing meets
-  missing : {l : Line} → Once row (keysOf xs) → First (Unmet (keysOf xs)) row l → RowFault row xs 13 (asks l)
-  -- 14: neither, and of a choice with both members the later
-  both : {l : Line} {x : Item} → Once row (keysOf xs) → Each (λ l. Unmet (keysOf xs) l → ⊥) row →
-      First (Doubled (keysOf xs)) row l
+  -- 26: no second, and the earliest of a wrong size
+  missized : {x : Item} → Once row (keysOf xs) → First (Missized row) xs x → RowFault row xs 26 (x .mark)
+  -- 13: neither, and the first line in row order that nothing meets
+  missing : {l : Line} → Once row (keysOf xs) → Each (Sized row) xs → First (Unmet (keysOf xs)) row l →
+      RowFault row xs 13 (asks l)
+  -- 14: none of these, and of a choice with both members the later
+  both : {l : Line} {x : Item} → Once row (keysOf xs) → Each (Sized row) xs →
+      Each (λ l. Unmet (keysOf xs) l → ⊥) row → First (Doubled (keysOf xs)) row l
       → Last (λ y. onLine l (y .is) ≡ true) xs x → RowFault row xs 14 (x .mark)

@@ -1,11 +1,12 @@
--- How a row judges a run of parameters: 12, 13 and 14 in their order.
+-- How a row judges a run of parameters: 12, 26, 13 and 14 in their order.
 use Prim.Native.Nat.{ℕ, _+_}
 use mathlib.Core.Bool.{Bool, true, false, _&&_, _||_, not}
 use mathlib.Core.List.{List, [], _∷_}
 use lib.Dec.{eqb}
 use Rattle.element.specs.Octets.{if}
 use Rattle.element.specs.Answer.{Answer, accepted, refused, _>>=_, _>>_, check}
-use Rattle.operation.specs.Row.{Line, must, oneOf, anyOf, may, asks, Row, someOf, onLine, named, repeats, Item}
+use Rattle.operation.specs.Row.{Line, must, oneOf, anyOf, may, asks, Row, someOf, onLine, named, repeats, allows, Item}
+use Rattle.operation.specs.Rows.{sizes}
 
 unfoldable pub occurs : ℕ → List Item → Bool
 occurs k [] = false
@@ -22,6 +23,13 @@ once row seen [] = accepted tt
 once row seen (x ∷ xs) = do
   check (not (named row (x .is) && (not (repeats (x .is)) && occurs (x .is) seen))) 12 (x .mark)
   once row (x ∷ seen) xs
+
+-- 26: what is named has a size that is fixed for it
+unfoldable pub sized : (named : ℕ → Bool) → List Item → Answer Unit
+sized named [] = accepted tt
+sized named (x ∷ xs) = do
+  check (not (named (x .is)) || allows (sizes (x .is)) (x .size)) 26 (x .mark)
+  sized named xs
 
 -- 13: what must occur does
 unfoldable pub met : Line → List Item → Bool
@@ -46,7 +54,7 @@ single [] xs = accepted tt
 single (l ∷ ls) xs = check (not (doubled l xs)) 14 (lastMark l 0 xs) >> single ls xs
 
 unfoldable pub judge : Row → List Item → Answer Unit
-judge row xs = once row [] xs >> present row xs >> single row xs
+judge row xs = once row [] xs >> sized (named row) xs >> present row xs >> single row xs
 
 unfoldable pub countNamed : Row → List Item → ℕ
 countNamed row [] = 0
@@ -58,4 +66,4 @@ pointed f (accepted x) = accepted x
 pointed f (refused n d) = refused n (if (eqb n 13) d (f d))
 
 unfoldable pub remark : (ℕ → ℕ) → Item → Item
-remark f x = record { is = x .is; mark = f (x .mark) }
+remark f x = record { is = x .is; size = x .size; mark = f (x .mark) }

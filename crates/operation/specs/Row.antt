@@ -68,8 +68,14 @@ groupLast (may j ∷ ls) = groupLast ls
 unfoldable pub repeats : ℕ → Bool
 repeats k = eqb k (key 4 0)
 
--- what a row judges: a key, and the mark by which a refusal points to it, a place to the reader and an entry to the
--- writer
+-- contents of so many octets are one of the sizes that are fixed; where none is fixed they are of any
+unfoldable pub allows : (sizes : List ℕ) (size : ℕ) → Bool
+allows [] n = true
+allows (m ∷ ms) n = among (m ∷ ms) n
+
+-- what a row judges: a key, the size of the contents in octets, and the mark by which a refusal points to it, a place
+-- to the reader and an entry to the writer
 pub record Item : Type 0 where
   pub is : ℕ
+  pub size : ℕ
   pub mark : ℕ

@@ -1,9 +1,9 @@
-// The judgement of a row over a table of entries: 12, 13 and 14, in their order.
+// The judgement of a row over a table of entries: 12, 26, 13 and 14, in their order.
 use super::Judged;
 use super::Missing;
 use super::Notes;
-use super::Repeat;
 use super::rows::DIGITS;
+use super::sizes::missized;
 use component::WIDTH;
 ghost use mathlib.Core.Path.{_≡_};
 ghost use Prim.Native.Nat.{_+_, _*_, _<_, _≤_};
@@ -12,7 +12,7 @@ ghost use Rattle.component.specs.Table.{width};
 ghost use Rattle.operation.specs.Row.{oneOf};
 ghost use Rattle.operation.specs.Judge.{lastMark};
 ghost use Rattle.operation.specs.inner.Coded.{holds, itemAt, itemsFrom};
-ghost use Rattle.operation.specs.inner.Firsts.{missingIn, lackingAll, lacking, Walked, Settles};
+ghost use Rattle.operation.specs.inner.Firsts.{missingIn, lackingAll, lacking, Walked, Faulted, Settles};
 
 // ---- a set of keys, and an entry of a table
 
@@ -67,18 +67,18 @@ fn last_of(one: u64, other: u64, table: &[u16], count: usize) -> usize
 
 // ---- the judgement
 
-// 12: the first entry that occurred before, of those that the row names and may not repeat. Each that the row names is
-// noted, and one that is not noted did not occur before. The first with its key is at the latest the entry itself.
+// A walk that goes on while nothing of 12 and 26 is amiss: it notes each entry that the row names, and stops at the first
+// that was noted before and may not repeat, or whose size is wrong. What is not noted did not occur before.
 pub(crate) fn note(names: &[u64], table: &[u16], count: usize) -> Notes
     requires { ⌜ (width * count ≤ length (now table)) × (count ≤ 64) × (length (now names) ≤ 13) ⌝ }
-    ensures { λ r. ⌜ Walked (r .repeat) (now (names .entry)) (r .seen) (itemsFrom (now (table .entry)) 0 count) ⌝ }
+    ensures { λ r. ⌜ Walked r (now (names .entry)) count (itemsFrom (now (table .entry)) 0 count) ⌝ }
 {
     let mut seen = [0u64; 13];
     let mut at: usize = 0;
     let mut named: usize = 0;
-    let repeat = 'parameters: loop {
+    let stop = 'parameters: loop {
         if count <= at {
-            break 'parameters Repeat::None { named };
+            break 'parameters count;
         }
         let next = at + 1;
         let key = key_at(table, at);
@@ -89,21 +89,48 @@ pub(crate) fn note(names: &[u64], table: &[u16], count: usize) -> Notes
             let noted = seen[word];
             if (noted >> bit) % 2 == 1 {
                 if key != DIGITS as u64 {
-                    let mut first: usize = 0;
-                    while key_at(table, first) != key {
-                        first = first + 1;
-                    }
-                    if first < at {
-                        break 'parameters Repeat::At(at);
-                    }
+                    break 'parameters at;
                 }
             } else {
+                if missized(key, table[WIDTH * at + 3]) {
+                    break 'parameters at;
+                }
                 seen[word] = noted + (1 << bit);
             }
         }
         at = next;
     };
-    Notes { repeat, seen }
+    Notes { stop, named, seen }
+}
+
+// 12, or else 26, of a run that `note` left at `stop`: the first entry that occurred before, of those that the row names
+// and may not repeat; where none did, the size at `stop` is the first wrong one. The first entry with a key is at the
+// latest the one that is looked at.
+pub(crate) fn fault(names: &[u64], table: &[u16], count: usize, stop: usize) -> Judged
+    requires { ⌜ (width * count ≤ length (now table)) × (count ≤ 64) ⌝ }
+    ensures { λ r. ⌜ Faulted r (now (names .entry)) stop (itemsFrom (now (table .entry)) 0 count) ⌝ }
+{
+    let mut at: usize = 0;
+    let judged = 'parameters: loop {
+        if count <= at {
+            break 'parameters Judged::WrongSize(stop);
+        }
+        let next = at + 1;
+        let key = key_at(table, at);
+        if has(names, key) {
+            if key != DIGITS as u64 {
+                let mut first: usize = 0;
+                while key_at(table, first) != key {
+                    first = first + 1;
+                }
+                if first < at {
+                    break 'parameters Judged::Again(at);
+                }
+            }
+        }
+        at = next;
+    };
+    judged
 }
 
 // 13 of a group, of which one must have been noted: it gives the first. No members are no group.
@@ -153,8 +180,8 @@ fn first_missing(must: &[u16], group: &[u16], one: u64, other: u64, seen: &[u64]
     answer
 }
 
-// 13 and 14 by what was noted. A row with no choice gives the same key twice. The two keys are numbers and no struct:
-// by them the compiler sees what an arm does not need, and unrolls the rest there.
+// 13 and 14 by what was noted, where the walk came to the end. A row with no choice gives the same key twice. The two
+// keys are numbers and no struct: by them the compiler sees what an arm does not need, and unrolls the rest there.
 pub(crate) fn settle(
     must: &[u16],
     group: &[u16],
@@ -165,25 +192,21 @@ pub(crate) fn settle(
     notes: Notes,
 ) -> Judged
     requires { ⌜ (width * count ≤ length (now table)) × (count ≤ 64) ⌝ }
-    ensures { λ r. ⌜ Settles (notes .repeat) r (now (must .entry)) (now (group .entry)) one other (notes .seen)
+    ensures { λ r. ⌜ Settles r (now (must .entry)) (now (group .entry)) one other notes
         (itemsFrom (now (table .entry)) 0 count) ⌝ }
 {
     let seen = notes.seen;
-    let repeat = notes.repeat;
-    match repeat {
-        Repeat::At(entry) => Judged::Again(entry),
-        Repeat::None { named } => match first_missing(must, group, one, other, &seen) {
-            Missing::Number(number) => Judged::Missing(number),
-            Missing::None => {
-                if one != other {
-                    if has(&seen, one) {
-                        if has(&seen, other) {
-                            return Judged::Both(last_of(one, other, table, count));
-                        }
+    match first_missing(must, group, one, other, &seen) {
+        Missing::Number(number) => Judged::Missing(number),
+        Missing::None => {
+            if one != other {
+                if has(&seen, one) {
+                    if has(&seen, other) {
+                        return Judged::Both(last_of(one, other, table, count));
                     }
                 }
-                Judged::Fits(named)
             }
-        },
+            Judged::Fits(notes.named)
+        }
     }
 }

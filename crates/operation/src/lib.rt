@@ -3,6 +3,7 @@ mod engine;
 mod names;
 mod rows;
 mod sheet;
+mod sizes;
 mod summary;
 
 use component::Code;
@@ -50,6 +51,7 @@ pub enum Judged {
     Fits(usize),
     NoRow,
     Again(usize),
+    WrongSize(usize),
     Missing(u16),
     Both(usize),
 }
@@ -75,15 +77,11 @@ pub enum Writing {
     Refused { number: u8, detail: u32 },
 }
 
-// What the row names and occurs again, and is not Digits; else how many of the parameters the row names.
-enum Repeat {
-    None { named: usize },
-    At(usize),
-}
-
-// What a walk over the parameters found, and the keys that it noted.
+// What a walk over the parameters found: the entry at which it stopped, or their count; how many of them the row names,
+// and their keys.
 struct Notes {
-    repeat: Repeat,
+    stop: usize,
+    named: usize,
     seen: [u64; 13],
 }
 
@@ -193,6 +191,10 @@ fn finish(
             number: 12,
             detail: place_of(sheet, entry),
         },
+        Judged::WrongSize(entry) => Reading::Refused {
+            number: 26,
+            detail: place_of(sheet, entry),
+        },
         Judged::Missing(number) => Reading::Refused {
             number: 13,
             detail: number as u32,
@@ -260,7 +262,7 @@ fn judge_table(kind: u8, specifier: u8, count: usize, table: &[u16]) -> Judged
     judge_operation(kind, specifier, table, count)
 }
 
-// The writer's answer by it: an entry is the detail of 12 and of 14.
+// The writer's answer by it: an entry is the detail of 12, of 26 and of 14.
 fn row_answer(judged: Judged) -> Writing
     requires { ⌜ Pointing 64 judged ⌝ }
     ensures { λ r. ⌜ writtenIn r ≡ judgedIn judged ⌝ }
@@ -273,6 +275,10 @@ fn row_answer(judged: Judged) -> Writing
         },
         Judged::Again(entry) => Writing::Refused {
             number: 12,
+            detail: entry as u32,
+        },
+        Judged::WrongSize(entry) => Writing::Refused {
+            number: 26,
             detail: entry as u32,
         },
         Judged::Missing(number) => Writing::Refused {

@@ -1,5 +1,6 @@
 // The register and the rows of the paper, and the row that an operation asks.
 use super::Judged;
+use super::engine::fault;
 use super::engine::note;
 use super::engine::settle;
 use super::names;
@@ -198,24 +199,36 @@ fn judge_invoke(specifier: u8, table: &[u16], count: usize) -> Judged
             let names = HANDOFF_BACK_NAMES;
             let must = HANDOFF_BACK_MUST;
             let notes = note(&names, table, count);
+            if notes.stop < count {
+                return fault(&names, table, count, notes.stop);
+            }
             settle(&must, &NO_GROUP, NONE, NONE, table, count, notes)
         }
         13 => {
             let names = REGISTRATION_NOTIFICATION_NAMES;
             let must = REGISTRATION_NOTIFICATION_MUST;
             let notes = note(&names, table, count);
+            if notes.stop < count {
+                return fault(&names, table, count, notes.stop);
+            }
             settle(&must, &NO_GROUP, MIN_KEY, IMSI_KEY, table, count, notes)
         }
         15 => {
             let names = LOCATION_REQUEST_NAMES;
             let must = LOCATION_REQUEST_MUST;
             let notes = note(&names, table, count);
+            if notes.stop < count {
+                return fault(&names, table, count, notes.stop);
+            }
             settle(&must, &NO_GROUP, NONE, NONE, table, count, notes)
         }
         37 => {
             let names = HANDOFF_BACK2_NAMES;
             let must = HANDOFF_BACK2_MUST;
             let notes = note(&names, table, count);
+            if notes.stop < count {
+                return fault(&names, table, count, notes.stop);
+            }
             settle(&must, &NO_GROUP, NONE, NONE, table, count, notes)
         }
         _ => judge_page(specifier, table, count),
@@ -234,6 +247,9 @@ fn judge_page(specifier: u8, table: &[u16], count: usize) -> Judged
             let must = INTER_SYSTEM_PAGE_MUST;
             let group = INTER_SYSTEM_PAGE_GROUP;
             let notes = note(&names, table, count);
+            if notes.stop < count {
+                return fault(&names, table, count, notes.stop);
+            }
             settle(&must, &group, NONE, NONE, table, count, notes)
         }
         101 => {
@@ -241,6 +257,9 @@ fn judge_page(specifier: u8, table: &[u16], count: usize) -> Judged
             let must = INTER_SYSTEM_SMS_PAGE_MUST;
             let group = INTER_SYSTEM_SMS_PAGE_GROUP;
             let notes = note(&names, table, count);
+            if notes.stop < count {
+                return fault(&names, table, count, notes.stop);
+            }
             settle(&must, &group, NONE, NONE, table, count, notes)
         }
         _ => Judged::NoRow,
@@ -257,36 +276,54 @@ fn judge_result(specifier: u8, table: &[u16], count: usize) -> Judged
             let names = HANDOFF_BACK_RESULT_NAMES;
             let must = HANDOFF_BACK_RESULT_MUST;
             let notes = note(&names, table, count);
+            if notes.stop < count {
+                return fault(&names, table, count, notes.stop);
+            }
             settle(&must, &NO_GROUP, NONE, NONE, table, count, notes)
         }
         13 => {
             let names = REGISTRATION_NOTIFICATION_RESULT_NAMES;
             let must = REGISTRATION_NOTIFICATION_RESULT_MUST;
             let notes = note(&names, table, count);
+            if notes.stop < count {
+                return fault(&names, table, count, notes.stop);
+            }
             settle(&must, &NO_GROUP, NONE, NONE, table, count, notes)
         }
         14 => {
             let names = REGISTRATION_CANCELLATION_RESULT_NAMES;
             let must = REGISTRATION_CANCELLATION_RESULT_MUST;
             let notes = note(&names, table, count);
+            if notes.stop < count {
+                return fault(&names, table, count, notes.stop);
+            }
             settle(&must, &NO_GROUP, NONE, NONE, table, count, notes)
         }
         26 => {
             let names = FLASH_REQUEST_RESULT_NAMES;
             let must = FLASH_REQUEST_RESULT_MUST;
             let notes = note(&names, table, count);
+            if notes.stop < count {
+                return fault(&names, table, count, notes.stop);
+            }
             settle(&must, &NO_GROUP, NONE, NONE, table, count, notes)
         }
         64 => {
             let names = ANALYZED_INFORMATION_RESULT_NAMES;
             let must = ANALYZED_INFORMATION_RESULT_MUST;
             let notes = note(&names, table, count);
+            if notes.stop < count {
+                return fault(&names, table, count, notes.stop);
+            }
             settle(&must, &NO_GROUP, NONE, NONE, table, count, notes)
         }
         101 => {
             let names = INTER_SYSTEM_SMS_PAGE_RESULT_NAMES;
             let must = INTER_SYSTEM_SMS_PAGE_RESULT_MUST;
             let notes = note(&names, table, count);
+            if notes.stop < count {
+                return fault(&names, table, count, notes.stop);
+            }
             settle(&must, &NO_GROUP, NONE, NONE, table, count, notes)
         }
         _ => Judged::NoRow,

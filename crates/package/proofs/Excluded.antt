@@ -2,30 +2,16 @@
 -- program that reads one of these otherwise satisfies them not.
 use Prim.Native.Nat.{ℕ, zero, suc}
 use mathlib.Core.Path.{_≡_, refl, ap, _∙_}
-use mathlib.Core.Bool.{Bool, true, _&&_}
+use mathlib.Core.Bool.{true}
 use mathlib.Core.List.{List, [], _∷_}
-use lib.Dec.{ltb}
-use borrow.Author.Tests.{ltb-true}
-use native.Mathlib.Omega.{arith}
-use Rattle.element.specs.Octets.{Octets, AreOctets}
 use Rattle.element.specs.Answer.{refused}
-use Rattle.operation.proofs.Lines.{each}
+use Rattle.operation.proofs.Excluded.{below, are-octets}
 use Rattle.package.specs.Caller.{Read, read, Reader, Writer}
 use Rattle.package.specs.Demands.{Demands}
 use Rattle.package.specs.Model.{OnlyOne}
 use Rattle.package.specs.Charts.{Chart, zeros, reads, worked}
 use Rattle.package.proofs.OnlyOne.{only-one}
 use Rattle.package.proofs.Charts.{charts}
-
--- octets, by one test over them
-abbrev below : Octets → Bool
-below [] = true
-below (x ∷ s) = ltb x 256 && below s
-
-are-octets : (s : Octets) → below s ≡ true → AreOctets s
-are-octets [] e i = omega arith
-are-octets (x ∷ s) e zero = ltb-true x 256 (each (ltb x 256) (below s) e .0)
-are-octets (x ∷ s) e (suc i) = are-octets s (each (ltb x 256) (below s) e .1) i
 
 abbrev nth : {A : Type 0} → A → ℕ → List A → A
 nth none i [] = none
@@ -95,3 +81,7 @@ module _ (r : Reader) (w : Writer) (d : Demands r w) where
 
   pub ended-inside-is-25 : Reads 26
   ended-inside-is-25 = as-charted 26 refl (ap (nth nothing 26) charts)
+
+  -- 26 of a component is at its place in the package
+  pub wrong-size-at-its-place : Reads 27
+  wrong-size-at-its-place = as-charted 27 refl (ap (nth nothing 27) charts)

@@ -6,7 +6,7 @@ use super::{draft, draft_of, nameless, of_type, Case};
 use crate::generate::draft::Element;
 use crate::generate::{Subject, REGISTER};
 use crate::reader::MOST_PARAMETERS;
-use crate::rows::{Identifier, Row, ROWS};
+use crate::rows::{is_right_size, Identifier, Row, ROWS};
 use crate::types::{self, ERROR, INVOKE, REJECT, RESULT};
 
 pub fn lists(row: &Row) -> Vec<List> {
@@ -68,11 +68,15 @@ fn alike(row: &Row) -> Vec<List> {
     lists
 }
 
-/// No octets of contents still counts as occurring.
+/// No octets of contents still counts as occurring, where they are a right
+/// size.
 pub fn of_no_octets(row: &'static Row) -> Case {
-    let mut draft = draft(row, &all(row));
-    for parameter in &mut draft.parameters {
-        parameter.contents.clear();
+    let all = all(row);
+    let mut draft = draft(row, &all);
+    for (one, parameter) in all.iter().zip(&mut draft.parameters) {
+        if is_right_size(one.number, 0) {
+            parameter.contents.clear();
+        }
     }
     Case::of(&draft)
 }

@@ -92,10 +92,11 @@ fn code(draft: &mut Draft) -> &mut Vec<u8> {
     &mut draft.code.as_mut().expect("a code").contents
 }
 
-/// Sound in its layout, but without a row, with a named one again, or with
-/// what is mandatory missing; nothing of it is asked of an ERROR or a REJECT.
-fn refused_by_row(kind: &ComponentType) -> [Draft; 3] {
-    let mut drafts = [sound(kind), sound(kind), sound(kind)];
+/// Sound in its layout, but without a row, with a named one again, with what
+/// is mandatory missing, or with an INVOKE's MIN of a wrong size; nothing of
+/// it is asked of an ERROR or a REJECT.
+fn refused_by_row(kind: &ComponentType) -> [Draft; 4] {
+    let mut drafts = [(); 4].map(|_| sound(kind));
     drafts[0].specifier = 0;
     if kind.octet == INVOKE {
         code(&mut drafts[0])[1] = 0;
@@ -104,5 +105,6 @@ fn refused_by_row(kind: &ComponentType) -> [Draft; 3] {
         .parameters
         .push(parameter(Identifier::primitive(105)));
     drafts[2].parameters.remove(1);
+    drafts[3].parameters[0].contents.truncate(2);
     drafts
 }

@@ -97,7 +97,10 @@ fn short(kind: u8, id: u8) -> Draft {
         .parameters
         .retain(|one| kept.contains(&&one.identifier[..]));
     for one in &mut draft.parameters {
-        one.contents.truncate(1);
+        // MIN keeps its size.
+        if one.identifier != [0x88] {
+            one.contents.truncate(1);
+        }
     }
     draft.id = Some(Element::new(vec![0xCF], vec![id]));
     draft

@@ -95,18 +95,21 @@ fn three_forms() -> impl Iterator<Item = (Form, Form, Form)> {
     ANY_FORM.iter().flat_map(pairs).flat_map(third)
 }
 
-/// By 12, 13 and 14, of which 12 and 14 point to a parameter.
-fn refused_by_row() -> [Draft; 3] {
+/// By 12, 13, 14 and 26, of which all but 13 point to a parameter.
+fn refused_by_row() -> [Draft; 4] {
     let row = rows::find(INVOKE, 13).expect("the row with a choice");
-    let lists: [&[u16]; 3] = [
+    let lists: [&[u16]; 4] = [
         &[9, 8, 21, 17, 22, 9],
         &[9, 8, 21, 17],
         &[9, 8, 21, 17, 22, 242],
+        &[9, 8, 21, 17, 22],
     ];
-    lists.map(|numbers| {
+    let mut drafts = lists.map(|numbers| {
         let list: Vec<Identifier> = numbers.iter().copied().map(Identifier::primitive).collect();
         draft(row, &list)
-    })
+    });
+    drafts[3].parameters[2].contents = filling(2);
+    drafts
 }
 
 /// 64 and 65 parameters, one of them or all padded.

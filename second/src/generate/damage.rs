@@ -2,15 +2,16 @@
 //! and is not.
 
 use super::draft::{element, identifier, Draft, Element, Form, Length};
-use super::{draw_kind, draw_named, draw_other, draw_rowless, members, NUMBERS};
+use super::{draw_kind, draw_named, draw_of_wrong_size, draw_other, draw_rowless};
+use super::{draw_wrong_size, members, Drawn, NUMBERS};
 use crate::random::Random;
-use crate::rows::Row;
+use crate::rows::{is_right_size, Row, SIZED};
 use crate::types::{self, INVOKE};
 
 type Damage = fn(&mut Random, &mut Draft);
 
 /// Some stand more than once to be met more often.
-const DAMAGES: [Damage; 52] = [
+const DAMAGES: [Damage; 59] = [
     wrong_type,
     swapped_type,
     no_id,
@@ -28,6 +29,7 @@ const DAMAGES: [Damage; 52] = [
     cut_at_code,
     wrong_family,
     no_set,
+    wrong_set_identifier,
     wrong_set_identifier,
     no_row,
     no_row,
@@ -54,6 +56,7 @@ const DAMAGES: [Damage; 52] = [
     repeat_any,
     repeat_any,
     repeat_any,
+    repeat_any,
     drop_one,
     drop_one,
     drop_one,
@@ -61,6 +64,11 @@ const DAMAGES: [Damage; 52] = [
     no_member,
     no_member,
     twins_of_members,
+    wrong_size,
+    wrong_size,
+    wrong_size,
+    wrong_sizes,
+    wrong_size_and_more,
     all_empty,
     empty_set,
 ];
@@ -191,6 +199,11 @@ fn insert(random: &mut Random, draft: &mut Draft, mut parameter: Element) {
     parameter.length = draft.draw_length(random);
     let at = random.below(draft.parameters.len() + 1);
     draft.parameters.insert(at, parameter);
+}
+
+fn add(random: &mut Random, draft: &mut Draft, drawn: Drawn) {
+    let one = element(random, drawn);
+    insert(random, draft, one);
 }
 
 fn insert_raw(random: &mut Random, draft: &mut Draft, identifier: Vec<u8>) {
@@ -381,8 +394,7 @@ pub fn every_member(random: &mut Random, draft: &mut Draft) {
         let octets = identifier(*number, false);
         if !draft.parameters.iter().any(|one| one.identifier == octets) {
             let drawn = draw_named(random, *number);
-            let member = element(random, drawn);
-            insert(random, draft, member);
+            add(random, draft, drawn);
         }
     }
 }
@@ -411,9 +423,57 @@ fn twins_of_members(_: &mut Random, draft: &mut Draft) {
     }
 }
 
+/// The number of a primitive parameter of fixed size.
+fn sized_number(one: &Element) -> Option<u16> {
+    let mut numbers = SIZED.iter().map(|(number, _)| *number);
+    numbers.find(|number| one.identifier == identifier(*number, false))
+}
+
+/// One of fixed size gets another (26); where none stands there, one is added
+/// that the row may not name, and then it is no fault.
+pub fn wrong_size(random: &mut Random, draft: &mut Draft) {
+    let each = draft.parameters.iter().enumerate();
+    let sized: Vec<(usize, u16)> = each
+        .filter_map(|(at, one)| Some((at, sized_number(one)?)))
+        .collect();
+    if sized.is_empty() {
+        let drawn = draw_of_wrong_size(random);
+        return add(random, draft, drawn);
+    }
+    let (at, number) = random.pick(&sized);
+    let count = draw_wrong_size(random, number);
+    draft.parameters[at].contents = random.octets(count);
+}
+
+/// Mostly of several parameters: the earliest is given.
+fn wrong_sizes(random: &mut Random, draft: &mut Draft) {
+    for _ in 0..random.between(2, 4) {
+        wrong_size(random, draft);
+    }
+}
+
+/// Beside what is asked before it, 12, and behind it, 13 and 14.
+fn wrong_size_and_more(random: &mut Random, draft: &mut Draft) {
+    wrong_size(random, draft);
+    random.pick::<Damage>(&[repeat_any, drop_one, every_member, no_member])(random, draft);
+}
+
+/// In place of what stands there with the same identifier, or added.
+pub(super) fn instead(random: &mut Random, draft: &mut Draft, drawn: Drawn) {
+    let octets = identifier(drawn.number, drawn.constructor);
+    let mut standing = draft.parameters.iter_mut();
+    match standing.find(|one| one.identifier == octets) {
+        Some(one) => one.contents = random.octets(drawn.length),
+        None => add(random, draft, drawn),
+    }
+}
+
+/// But for those whose size is fixed, no octets still count as occurring.
 fn all_empty(_: &mut Random, draft: &mut Draft) {
     for parameter in &mut draft.parameters {
-        parameter.contents.clear();
+        if sized_number(parameter).is_none_or(|number| is_right_size(number, 0)) {
+            parameter.contents.clear();
+        }
     }
 }
 
@@ -432,8 +492,7 @@ pub fn fill_up(random: &mut Random, draft: &mut Draft, count: usize) {
 pub fn add_other(random: &mut Random, draft: &mut Draft) {
     let mut drawn = draw_other(random, draft.row);
     drawn.length = drawn.length.min(8);
-    let other = element(random, drawn);
-    insert(random, draft, other);
+    add(random, draft, drawn);
 }
 
 /// Breaks a parameter at this index, if there is one: for the 65th, where 10

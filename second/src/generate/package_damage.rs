@@ -54,7 +54,10 @@ const OUTSIDE: [Damage; 36] = [
 ];
 
 /// Of its components.
-const INSIDE: [Damage; 14] = [
+const INSIDE: [Damage; 19] = [
+    one_damaged,
+    one_damaged,
+    one_damaged,
     one_damaged,
     one_damaged,
     one_damaged,
@@ -65,6 +68,8 @@ const INSIDE: [Damage; 14] = [
     without_row,
     without_row,
     doubled_choice,
+    wrong_size_inside,
+    wrong_size_inside,
     crowded,
     not_carried_then_damaged,
     not_carried_then_damaged,
@@ -408,6 +413,15 @@ fn doubled_choice(random: &mut Random, draft: &mut PackageDraft) {
         let mut one = Draft::valid(random, Subject::of_row(row));
         damage::every_member(random, &mut one);
         draft.components[at] = one;
+    }
+}
+
+/// In one or two of them, of which the first is given.
+fn wrong_size_inside(random: &mut Random, draft: &mut PackageDraft) {
+    for _ in 0..random.between(1, 2) {
+        if let Some(at) = any(random, draft) {
+            damage::wrong_size(random, &mut draft.components[at]);
+        }
     }
 }
 

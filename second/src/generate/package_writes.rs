@@ -83,7 +83,7 @@ struct PackageDraft {
 type Damage = fn(&mut Random, &mut PackageDraft);
 
 /// Some stand more than once to be met more often.
-const DAMAGES: [Damage; 22] = [
+const DAMAGES: [Damage; 26] = [
     short_table,
     no_package_type,
     other_package_type,
@@ -98,7 +98,11 @@ const DAMAGES: [Damage; 22] = [
     one_damaged,
     one_damaged,
     one_damaged,
+    one_damaged,
+    one_damaged,
     two_damaged,
+    wrong_size_inside,
+    wrong_size_inside,
     no_type_inside,
     too_long_inside,
     not_carried,
@@ -400,6 +404,15 @@ fn one_damaged(random: &mut Random, draft: &mut PackageDraft) {
 fn two_damaged(random: &mut Random, draft: &mut PackageDraft) {
     one_damaged(random, draft);
     one_damaged(random, draft);
+}
+
+/// In one or two of them, of which the first is given.
+fn wrong_size_inside(random: &mut Random, draft: &mut PackageDraft) {
+    for _ in 0..random.between(1, 2) {
+        if let Some(at) = draft.any(random) {
+            write_cases::wrong_size(random, &mut draft.components[at].draft);
+        }
+    }
 }
 
 fn no_type_inside(random: &mut Random, draft: &mut PackageDraft) {

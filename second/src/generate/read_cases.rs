@@ -2,10 +2,10 @@
 
 use super::damage;
 use super::draft::{draw_forms, element, Draft};
-use super::{draw_kind, draw_named, draw_subject, Subject};
+use super::{draw_kind, draw_named, draw_of_any_size, draw_subject, Subject};
 use crate::random::Random;
 use crate::reader::{MOST_PARAMETERS, TABLE_NUMBERS};
-use crate::rows;
+use crate::rows::{self, ROWS};
 use crate::types::INVOKE;
 
 /// What a call of the reader takes; the table's numbers before the call
@@ -18,7 +18,8 @@ pub struct ReadCase {
 
 pub fn read_case(random: &mut Random) -> ReadCase {
     let (component, specifier) = match random.below(1000) {
-        0..=219 => valid(random),
+        0..=194 => valid(random),
+        195..=219 => of_any_size(random),
         220..=764 => damaged(random),
         765..=779 => doubled_choice(random),
         780..=829 => mutated(random),
@@ -159,6 +160,15 @@ fn wide_parameter(random: &mut Random) -> (Vec<u8>, u8) {
     if random.percent(20) {
         damage::apply(random, &mut draft);
     }
+    finished(&draft)
+}
+
+/// Every row with every parameter of fixed size, of right and wrong sizes.
+fn of_any_size(random: &mut Random) -> (Vec<u8>, u8) {
+    let row = &ROWS[random.below(ROWS.len())];
+    let mut draft = Draft::valid(random, Subject::of_row(row));
+    let drawn = draw_of_any_size(random, row);
+    damage::instead(random, &mut draft, drawn);
     finished(&draft)
 }
 

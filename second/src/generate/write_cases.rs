@@ -1,10 +1,11 @@
 //! Whole cases for the writer.
 
-use super::{draw_id_count, draw_named, draw_other, draw_parameters, draw_rowless};
-use super::{draw_subject, members, read_case, Drawn, Subject, FILLER};
+use super::{draw_id_count, draw_named, draw_of_any_size, draw_of_wrong_size, draw_other};
+use super::{draw_parameters, draw_rowless, draw_subject, draw_wrong_size, members};
+use super::{read_case, Drawn, Subject, FILLER};
 use crate::random::Random;
 use crate::reader::{self, Accepted, ENTRY_NUMBERS, TABLE_NUMBERS};
-use crate::rows::Row;
+use crate::rows::{sizes, Row, ROWS};
 use crate::types::REJECT;
 use crate::writer::{self, Head};
 
@@ -44,7 +45,7 @@ pub(super) struct Draft {
 type Damage = fn(&mut Random, &mut Draft);
 
 /// Some stand more than once to be met more often.
-const DAMAGES: [Damage; 35] = [
+const DAMAGES: [Damage; 40] = [
     wrong_type,
     wrong_id_count,
     wrong_id_count,
@@ -78,6 +79,11 @@ const DAMAGES: [Damage; 35] = [
     no_member,
     no_member,
     twins_of_members,
+    wrong_size,
+    wrong_size,
+    wrong_size,
+    wrong_sizes,
+    wrong_size_and_more,
     overlapping,
     crowd,
 ];
@@ -86,6 +92,9 @@ const DAMAGES: [Damage; 35] = [
 pub fn write_case(random: &mut Random) -> WriteCase {
     if random.percent(10) {
         return as_read(random);
+    }
+    if random.percent(3) {
+        return of_any_size(random);
     }
     let subject = draw_subject(random);
     let mut draft = Draft::valid(random, subject);
@@ -132,6 +141,15 @@ fn again(random: &mut Random, accepted: &Accepted, table: Vec<u16>, source: Vec<
     }
 }
 
+/// Every row with every parameter of fixed size, of right and wrong sizes.
+fn of_any_size(random: &mut Random) -> WriteCase {
+    let row = &ROWS[random.below(ROWS.len())];
+    let mut draft = Draft::valid(random, Subject::of_row(row));
+    let drawn = draw_of_any_size(random, row);
+    draft.instead(random, drawn);
+    draft.finish(random)
+}
+
 /// Mostly one, sometimes more, for the order among the numbers.
 pub(super) fn damage(random: &mut Random, draft: &mut Draft) {
     random.pick(&DAMAGES)(random, draft);
@@ -170,6 +188,16 @@ impl Draft {
         let length = drawn.length as u16;
         self.list
             .push(entry(drawn.number, drawn.constructor, start, length));
+    }
+
+    /// In place of what stands there with the same identifier, or added.
+    fn instead(&mut self, random: &mut Random, drawn: Drawn) {
+        let alike = [drawn.number, u16::from(drawn.constructor)];
+        let standing = self.list.iter().position(|one| one[..2] == alike);
+        self.append(random, drawn);
+        if let Some(at) = standing {
+            self.list.swap_remove(at);
+        }
     }
 
     fn any(&mut self, random: &mut Random) -> Option<&mut Entry> {
@@ -388,7 +416,8 @@ fn start_past(random: &mut Random, draft: &mut Draft) {
     }
 }
 
-/// No octets at the source's very end: this fits.
+/// No octets at the source's very end: this fits, though it may be a wrong
+/// size.
 fn start_at_end(random: &mut Random, draft: &mut Draft) {
     let start = draft.source.len() as u16;
     if let Some(entry) = draft.any(random) {
@@ -416,10 +445,19 @@ fn insert(random: &mut Random, draft: &mut Draft, entry: Entry) {
     draft.list.insert(at, entry);
 }
 
+/// Puts a parameter anywhere among the others.
+fn add(random: &mut Random, draft: &mut Draft, drawn: Drawn) {
+    draft.append(random, drawn);
+    let entry = draft.list.pop().expect("just put there");
+    insert(random, draft, entry);
+}
+
+/// At times with contents of another size.
 fn repeat_any(random: &mut Random, draft: &mut Draft) {
     for _ in 0..random.between(1, 2) {
         if let Some(entry) = draft.any(random) {
-            let again = *entry;
+            let mut again = *entry;
+            again[3] = again[3].min(random.below(12) as u16);
             insert(random, draft, again);
         }
     }
@@ -445,9 +483,7 @@ fn every_member(random: &mut Random, draft: &mut Draft) {
     for number in members(draft.row) {
         if !draft.list.iter().any(|one| one[..2] == [*number, 0]) {
             let drawn = draw_named(random, *number);
-            draft.append(random, drawn);
-            let entry = draft.list.pop().expect("just put there");
-            insert(random, draft, entry);
+            add(random, draft, drawn);
         }
     }
 }
@@ -474,10 +510,53 @@ fn twins_of_members(_: &mut Random, draft: &mut Draft) {
     }
 }
 
-/// Contents anywhere in the source, over one another.
+/// A primitive one of fixed size.
+fn is_sized(entry: &Entry) -> bool {
+    entry[1] == 0 && sizes(entry[0]).is_some()
+}
+
+/// One of fixed size gets another (26); where none stands there, one is added
+/// that the row may not name, and then it is no fault.
+pub(super) fn wrong_size(random: &mut Random, draft: &mut Draft) {
+    let each = draft.list.iter().enumerate();
+    let sized: Vec<usize> = each
+        .filter_map(|(at, one)| is_sized(one).then_some(at))
+        .collect();
+    if sized.is_empty() {
+        let drawn = draw_of_wrong_size(random);
+        return add(random, draft, drawn);
+    }
+    let at = random.pick(&sized);
+    let length = draw_wrong_size(random, draft.list[at][0]);
+    let start = draft.source.len();
+    lengthen(random, draft, start + length);
+    draft.list[at][2] = start as u16;
+    draft.list[at][3] = length as u16;
+}
+
+/// Mostly of several entries: the earliest is given.
+fn wrong_sizes(random: &mut Random, draft: &mut Draft) {
+    for _ in 0..random.between(2, 4) {
+        wrong_size(random, draft);
+    }
+}
+
+/// Beside what is asked before it, 12, and behind it, 13 and 14.
+fn wrong_size_and_more(random: &mut Random, draft: &mut Draft) {
+    wrong_size(random, draft);
+    random.pick::<Damage>(&[repeat_any, drop_one, every_member, no_member])(random, draft);
+}
+
+/// Contents anywhere in the source, over one another; where the size is fixed
+/// it stays.
 fn overlapping(random: &mut Random, draft: &mut Draft) {
     let count = draft.source.len();
     for entry in &mut draft.list {
+        if is_sized(entry) {
+            let last = count.saturating_sub(usize::from(entry[3]));
+            entry[2] = random.below(last + 1) as u16;
+            continue;
+        }
         let start = random.below(count + 1);
         entry[2] = start as u16;
         entry[3] = random.below((count - start).min(12) + 1) as u16;

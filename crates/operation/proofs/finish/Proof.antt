@@ -7,8 +7,8 @@ use Rattle.operation.specs.inner.Finishing.{detailOf, finished, tableFin
 use Rattle.operation.proofs.finish.Statement.{statement}
 use Rattle.operation.proofs.finish.Tie as tie
 
-sub-t16 : tie.Need-sub-t16
-sub-t16 c =
+sub-t17 : tie.Need-sub-t17
+sub-t17 c =
     let p = c .before .before .before .before .before .before .before in
     omega (arith, rw (p .judged .given .1) at (p .before .before .before .before .before .pre .4))
 
@@ -20,7 +20,12 @@ place-of-requires c κs =
 place-of-requires-2 : tie.Need-place-of-requires-2
 place-of-requires-2 c κs =
     let p = c .before in
-    omega (arith, rw (p .judged4 .given .1) at (p .before .before .before .before .before .pre .4))
+    omega (arith, rw (p .judged3 .given .1) at (p .before .before .before .before .before .pre .4))
+
+place-of-requires-3 : tie.Need-place-of-requires-3
+place-of-requires-3 c κs =
+    let p = c .before in
+    omega (arith, rw (p .judged5 .given .1) at (p .before .before .before .before .before .pre .4))
 
 returns : tie.Need-returns
 unfolding finished tableFinished
@@ -38,11 +43,15 @@ returns-3 c = rw (c .before .before .judged2 .given .1, ← c .place-of .ensures
 
 returns-4 : tie.Need-returns-4
 unfolding finished tableFinished detailOf
-returns-4 c = rw (c .before .judged3 .given .1) (refl, refl)
+returns-4 c = rw (c .before .before .judged3 .given .1, ← c .place-of2 .ensures) (refl, refl)
 
 returns-5 : tie.Need-returns-5
 unfolding finished tableFinished detailOf
-returns-5 c = rw (c .before .before .judged4 .given .1, ← c .place-of2 .ensures) (refl, refl)
+returns-5 c = rw (c .before .judged4 .given .1) (refl, refl)
+
+returns-6 : tie.Need-returns-6
+unfolding finished tableFinished detailOf
+returns-6 c = rw (c .before .before .judged5 .given .1, ← c .place-of3 .ensures) (refl, refl)
 
 pub finish-spec : {M : Type 1} → statement M
 finish-spec =
@@ -50,14 +59,17 @@ finish-spec =
     (tie.spec
     (λ c. search needs) (λ c. search needs) (λ c κs. search needs) (λ c κs. search needs)
     (λ c κs. search needs)
-    sub-t16
+    sub-t17
     (λ c. search needs) (λ c κs. search needs) (λ c. search needs)
     place-of-requires
-    (λ c. search needs) (λ c. search needs) (λ c. search needs)
+    (λ c. search needs)
     place-of-requires-2
+    (λ c. search needs) (λ c. search needs) (λ c. search needs)
+    place-of-requires-3
     (λ c. search needs)
     returns
     returns-2
     returns-3
     returns-4
-    returns-5)
+    returns-5
+    returns-6)

@@ -1,6 +1,6 @@
 -- How the code holds a row and a run of parameters: the keys that a row names as a set, those that must occur as a
 -- list, the parameters as a table of entries.
-use Prim.Native.Nat.{ℕ, zero, suc, _+_, _*_, _/_, _%_, _^_}
+use Prim.Native.Nat.{ℕ, zero, suc, _+_, _*_, _/_, _%_, _^_, _<_}
 use mathlib.Core.Path.{_≡_}
 use mathlib.Core.Bool.{Bool, true, false, _&&_, _||_, not}
 use mathlib.Core.List.{List, [], _∷_, _++_}
@@ -12,7 +12,8 @@ use Rattle.component.specs.Table.{width, held}
 use Rattle.operation.specs.Judge.{judge, countNamed}
 use Rattle.operation.specs.declared.Judged as J
 use Rattle.operation.specs.declared.Judged.the-variants as JV
-use Rattle.operation.specs.Row.{Row, must, oneOf, anyOf, may, Item, key, members, among, named, groupLast}
+use Rattle.operation.specs.Row.{Row, must, oneOf, anyOf, may, Item, key, members, among, named, groupLast, allows}
+use Rattle.operation.specs.Rows.{sizes}
 use Rattle.operation.specs.Finding.{rowOf}
 
 -- ---- what a row names, as a set of keys: one bit for each, 64 to a word; a key beyond the words is not in it
@@ -89,10 +90,14 @@ unfoldable pub sound : Row → (n one other : ℕ) → Bool
 sound row n one other =
     apart n (keysIn row) && (groupLast row && (between one other row && (eqb one other || choice row)))
 
+-- ---- the keys of a word that have a size, and not this one
+abbrev pub Missizes : (word size : ℕ) → Type 0
+Missizes w size = (k : ℕ) → k < 64 → bit w k ≡ not (allows (sizes k) size)
+
 -- ---- a run of parameters
 -- the item of entry `i`, marked by `i`
 unfoldable pub itemAt : (table : List ℕ) (i : ℕ) → Item
-itemAt t i = record { is = key (held t i .number) (held t i .form); mark = i }
+itemAt t i = record { is = key (held t i .number) (held t i .form); size = held t i .size; mark = i }
 
 -- `count` entries from `i` on
 unfoldable pub itemsFrom : (table : List ℕ) (i count : ℕ) → List Item
@@ -121,6 +126,7 @@ abbrev pub judgedIn : J.Judged → Answer ℕ
 judgedIn (JV.Fits named) = accepted named
 judgedIn JV.NoRow = refused 11 0
 judgedIn (JV.Again entry) = refused 12 entry
+judgedIn (JV.WrongSize entry) = refused 26 entry
 judgedIn (JV.Missing number) = refused 13 number
 judgedIn (JV.Both entry) = refused 14 entry
 

@@ -25,6 +25,7 @@ abbrev pub Pointing : (count : ℕ) → J.Judged → Type 0
 Pointing count (JV.Fits named) = named ≤ count
 Pointing count JV.NoRow = Unit
 Pointing count (JV.Again entry) = entry < count
+Pointing count (JV.WrongSize entry) = entry < count
 Pointing count (JV.Missing number) = Unit
 Pointing count (JV.Both entry) = entry < count
 

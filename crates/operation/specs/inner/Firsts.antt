@@ -1,38 +1,35 @@
--- What the engine's searches for a first fault answer: the fault's number and where it is, else what comes of the run.
-use Prim.Native.Nat.{ℕ}
+-- What the engine's walk over a run finds, and what its searches for a first fault answer: its number and where it is.
+use Prim.Native.Nat.{ℕ, _<_, _≤_}
 use mathlib.Core.Path.{_≡_}
 use mathlib.Core.Bool.{_&&_, _||_}
 use mathlib.Core.List.{List, [], _∷_}
 use lib.Dec.{eqb}
-use Rattle.element.specs.Answer.{Answer, accepted, refused, _>>=_, _>>_, check}
+use Rattle.element.specs.Answer.{Answer, accepted, refused, _>>_, check}
 use Rattle.operation.specs.Row.{Row, Item, numberOf, someOf, named}
-use Rattle.operation.specs.Judge.{occurs, once, countNamed}
+use Rattle.operation.specs.Judge.{occurs, once, sized, countNamed}
 use Rattle.operation.specs.inner.Coded.{holds, Names, Asks, judgement, judgedIn}
 use Rattle.operation.specs.declared.Judged as J
-use Rattle.operation.specs.declared.Repeat as R
-use Rattle.operation.specs.declared.Repeat.the-variants as RV
+use Rattle.operation.specs.declared.Notes as N
 use Rattle.operation.specs.declared.Missing as M
 use Rattle.operation.specs.declared.Missing.the-variants as MV
 
--- how many of a run the row names, where none of them occurs again that may not
-unfoldable pub onceCounted : Row → List Item → Answer ℕ
-onceCounted row xs = do
-  once row [] xs
-  accepted (countNamed row xs)
+-- a run in which nothing occurs again and no size is wrong: what the row names of it is counted, and noted
+pub record Clear (row : Row) (notes : N.Notes) (xs : List Item) : Type 0 where
+  pub again : once row [] xs ≡ accepted tt
+  pub right : sized (named row) xs ≡ accepted tt
+  pub counted : notes .named ≡ countNamed row xs
+  pub noted : (k : ℕ) → holds (notes .seen) k ≡ (named row k && occurs k xs)
 
-abbrev pub repeatIn : R.Repeat → Answer ℕ
-repeatIn (RV.None named) = accepted named
-repeatIn (RV.At entry) = refused 12 entry
+-- what a walk found, at any row that names what the set holds. Where it stopped, and nothing occurs again, the size is
+-- the first wrong one
+pub record Walked (notes : N.Notes) (names : List ℕ) (count : ℕ) (xs : List Item) : Type 0 where
+  pub through : count ≤ notes .stop → (row : Row) → Names row names → Clear row notes xs
+  pub stopped : notes .stop < count → (row : Row) → Names row names → once row [] xs ≡ accepted tt →
+      sized (named row) xs ≡ refused 26 (notes .stop)
 
--- a walk that found no repeat has noted what the row names and occurs
-abbrev pub Noted : R.Repeat → Row → (seen : List ℕ) → List Item → Type 0
-Noted (RV.None _) row seen xs = (k : ℕ) → holds seen k ≡ (named row k && occurs k xs)
-Noted (RV.At entry) row seen xs = Unit
-
--- what a walk answers and notes, at any row that names what the set holds
-pub record Walked (r : R.Repeat) (names seen : List ℕ) (xs : List Item) : Type 0 where
-  pub counted : (row : Row) → Names row names → repeatIn r ≡ onceCounted row xs
-  pub noted : (row : Row) → Names row names → Noted r row seen xs
+-- 12 of a run that is not clear, and else 26 there
+pub record Faulted (r : J.Judged) (names : List ℕ) (stop : ℕ) (xs : List Item) : Type 0 where
+  pub judged : (row : Row) → Names row names → judgedIn r ≡ (once row [] xs >> refused 26 stop)
 
 -- 13 by what was noted: what must occur, and behind it the group, by its first, where none of it was
 unfoldable pub lackingAll : (group seen : List ℕ) → Answer Unit
@@ -49,8 +46,6 @@ abbrev pub missingIn : M.Missing → Answer Unit
 missingIn MV.None = accepted tt
 missingIn (MV.Number number) = refused 13 number
 
--- 13 and 14 behind a walk, at any row that asks for what the list holds
-pub record Settles (noted : R.Repeat) (r : J.Judged) (list group : List ℕ) (one other : ℕ) (seen : List ℕ)
-    (xs : List Item) : Type 0 where
-  pub judged : (row : Row) → Asks row list group one other → repeatIn noted ≡ onceCounted row xs →
-      Noted noted row seen xs → judgedIn r ≡ judgement row xs
+-- 13 and 14 of a run that is clear, at any row that asks for what the list holds
+pub record Settles (r : J.Judged) (list group : List ℕ) (one other : ℕ) (notes : N.Notes) (xs : List Item) : Type 0 where
+  pub judged : (row : Row) → Asks row list group one other → Clear row notes xs → judgedIn r ≡ judgement row xs

@@ -7,6 +7,7 @@ use crate::directed::parts::{sound, Part};
 use crate::directed::{draft, filling};
 use crate::generate::draft::{Draft, Element, Form, Length};
 use crate::generate::package_draft::PackageDraft;
+use crate::generate::SIZES;
 use crate::package::{CONVERSATION, MOST_COMPONENTS, QUERY, RESPONSE};
 use crate::reader::MOST_PARAMETERS;
 use crate::rows::{self, Identifier};
@@ -19,6 +20,7 @@ pub fn cases() -> Vec<PackageCase> {
         cases.extend(at_each_index(kind, &refused));
     }
     cases.extend(two_refused());
+    cases.extend(wrong_sizes());
     cases.extend(not_carried());
     cases.extend(crowds());
     cases
@@ -90,16 +92,18 @@ fn wrong_codes() -> Vec<Draft> {
     [INVOKE, ERROR, REJECT].map(wrong).into()
 }
 
-/// 11 to 14 of an INVOKE; of a RESULT 12, and by other specifiers more (see
-/// `by_specifier`).
+/// 11 to 14 and 26 of an INVOKE; of a RESULT 12, and by other specifiers more
+/// (see `two_refused` and `wrong_sizes`).
 fn refused_by_row() -> Vec<Draft> {
     let row = rows::find(INVOKE, 13).expect("the row with a choice");
-    let lists: [&[u16]; 3] = [
+    let lists: [&[u16]; 4] = [
         &[9, 8, 21, 17, 22, 9],
         &[9, 8, 21, 17],
         &[9, 8, 21, 17, 22, 242],
+        &[9, 8, 21, 17, 22],
     ];
     let mut drafts: Vec<Draft> = lists.map(|numbers| of_numbers(row, numbers)).into();
+    drafts[3].parameters[2].contents = filling(4);
     let mut rowless = short(INVOKE, 3);
     rowless.code = Element::code(types::of(INVOKE), [0, 0]);
     drafts.push(rowless);
@@ -126,6 +130,32 @@ fn two_refused() -> Vec<PackageCase> {
         cases.push(PackageCase::of(specifier, &behind));
         behind.components.swap(1, 2);
         cases.push(PackageCase::of(specifier, &behind));
+    }
+    cases
+}
+
+/// HandoffBack's results, by whose specifier ChannelData has none or three
+/// octets: of each size at each index, and at two of them; beside one that
+/// the package does not carry, which is asked later.
+fn wrong_sizes() -> Vec<PackageCase> {
+    let row = rows::find(RESULT, 4).expect("the HandoffBack result's row");
+    let result = |count: usize| {
+        let mut draft = of_numbers(row, &[5]);
+        draft.parameters[0].contents = filling(count);
+        draft
+    };
+    let mut cases = Vec::new();
+    for count in SIZES {
+        for index in 0..3 {
+            let mut components = vec![result(0); 3];
+            components[index] = result(count);
+            let mut draft = package(RESPONSE, components);
+            cases.push(PackageCase::of(row.specifier, &draft));
+            draft.components[2] = result(2);
+            cases.push(PackageCase::of(row.specifier, &draft));
+            draft.components[0] = short(INVOKE, 1);
+            cases.push(PackageCase::of(row.specifier, &draft));
+        }
     }
     cases
 }

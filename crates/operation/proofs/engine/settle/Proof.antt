@@ -4,41 +4,35 @@
 use mathlib.Core.Path.{sym, ap, _∙_}
 use borrow.Author.Tests.{ne-eqb, eqb-false}
 use Rattle.element.specs.Answer.{refused}
-use Rattle.operation.specs.inner.Firsts.{repeatIn, missingIn}
+use Rattle.operation.specs.inner.Firsts.{missingIn}
 use Rattle.operation.proofs.Settling as S
-use Rattle.operation.proofs.Verdicts.{again}
 use borrow.Author.Needs.{needs}
 use Rattle.operation.proofs.engine.settle.Statement.{statement}
 use Rattle.operation.proofs.engine.settle.Tie as tie
 
 returns : tie.Need-returns
-returns c = record { judged = λ row a r n. ap (refused 14) (c .last-of .ensures) ∙ S.both row _ _ _ _ _ _ a (c .before .before .before .before .before .before .before .before .before .before .before .before .before .repeat2 .given .1) r n (sym (ap missingIn (c .before .before .before .before .before .before .before .before .enum-told .given .1)) ∙ c .before .before .before .before .before .before .before .before .before .before .first-missing .ensures) (ne-eqb _ _ (c .before .before .before .before .before .before .before .if1 .taken)) (sym (c .before .before .before .before .before .has .ensures) ∙ c .before .before .before .before .if2 .taken) (sym (c .before .before .has2 .ensures) ∙ c .before .if3 .taken) }
+returns c = record { judged = λ row a n. ap (refused 14) (c .last-of .ensures) ∙ S.both row _ _ _ _ _ _ a n (sym (ap missingIn (c .before .before .before .before .before .before .before .before .enum-told .given .1)) ∙ c .before .before .before .before .before .before .before .before .before .before .first-missing .ensures) (ne-eqb _ _ (c .before .before .before .before .before .before .before .if1 .taken)) (sym (c .before .before .before .before .before .has .ensures) ∙ c .before .before .before .before .if2 .taken) (sym (c .before .before .has2 .ensures) ∙ c .before .if3 .taken) }
 
 returns-2 : tie.Need-returns-2
-returns-2 c = record { judged = λ row a r n. again row _ (sym (ap repeatIn (c .before .repeat .given .1)) ∙ r) }
+returns-2 c = record { judged = λ row a n. S.missing row _ _ _ _ _ _ a n (sym (ap missingIn (c .before .number .given .1)) ∙ c .before .before .before .first-missing .ensures) }
 
 returns-3 : tie.Need-returns-3
-returns-3 c = record { judged = λ row a r n. S.missing row _ _ _ _ _ _ a (c .before .before .before .before .before .before .repeat2 .given .1) r n (sym (ap missingIn (c .before .number .given .1)) ∙ c .before .before .before .first-missing .ensures) }
+returns-3 c = record { judged = λ row a n. S.not-other row _ _ _ _ _ _ a n (sym (ap missingIn (c .before .before .before .before .before .before .before .enum-told .given .1)) ∙ c .before .before .before .before .before .before .before .before .before .first-missing .ensures) (sym (c .before .has2 .ensures) ∙ c .if3 .left) }
 
 returns-4 : tie.Need-returns-4
-returns-4 c = record { judged = λ row a r n. S.not-other row _ _ _ _ _ _ a (c .before .before .before .before .before .before .before .before .before .before .before .before .repeat2 .given .1) r n (sym (ap missingIn (c .before .before .before .before .before .before .before .enum-told .given .1)) ∙ c .before .before .before .before .before .before .before .before .before .first-missing .ensures) (sym (c .before .has2 .ensures) ∙ c .if3 .left) }
+returns-4 c = record { judged = λ row a n. S.not-one row _ _ _ _ _ _ a n (sym (ap missingIn (c .before .before .before .before .enum-told .given .1)) ∙ c .before .before .before .before .before .before .first-missing .ensures) (sym (c .before .has .ensures) ∙ c .if2 .left) }
 
 returns-5 : tie.Need-returns-5
-returns-5 c = record { judged = λ row a r n. S.not-one row _ _ _ _ _ _ a (c .before .before .before .before .before .before .before .before .before .repeat2 .given .1) r n (sym (ap missingIn (c .before .before .before .before .enum-told .given .1)) ∙ c .before .before .before .before .before .before .first-missing .ensures) (sym (c .before .has .ensures) ∙ c .if2 .left) }
-
-returns-6 : tie.Need-returns-6
-returns-6 c = record { judged = λ row a r n. S.no-choice row _ _ _ _ _ _ a (c .before .before .before .before .before .before .repeat2 .given .1) r n (sym (ap missingIn (c .before .enum-told .given .1)) ∙ c .before .before .before .first-missing .ensures) (λ d. eqb-false _ _ d (c .if1 .left)) }
+returns-5 c = record { judged = λ row a n. S.no-choice row _ _ _ _ _ _ a n (sym (ap missingIn (c .before .enum-told .given .1)) ∙ c .before .before .before .first-missing .ensures) (λ d. eqb-false _ _ d (c .if1 .left)) }
 
 pub settle-spec : {M : Type 1} → statement M
 settle-spec =
     tie.close
     (tie.spec
-    (λ c. search needs) (λ c. search needs) (λ c. search needs) (λ c κs. search needs) (λ c. search needs)
-    (λ c. search needs) (λ c. search needs) (λ c κs. search needs) (λ c. search needs) (λ c κs. search needs)
-    (λ c κs. search needs)
+    (λ c. search needs) (λ c κs. search needs) (λ c. search needs) (λ c. search needs) (λ c. search needs)
+    (λ c κs. search needs) (λ c. search needs) (λ c κs. search needs) (λ c κs. search needs)
     returns
     returns-2
     returns-3
     returns-4
-    returns-5
-    returns-6)
+    returns-5)
