@@ -10,6 +10,7 @@ CIRCUIT = bytes.fromhex("86 02 01 07")
 MIN = bytes.fromhex("88 05 21 43 65 87 09")
 CELLS = bytes.fromhex("82 02 00 11 83 02 00 12")
 ESN = bytes.fromhex("89 04 01 02 03 04")
+SHORT_ESN = bytes.fromhex("89 03 01 02 03")
 BILLING = bytes.fromhex("81 07 00 11 05 00 00 2A 01")
 TMSI = bytes.fromhex("9F 81 69 04 01 02 03 04")
 IMSI = bytes.fromhex("9F 81 72 08 21 43 65 87 09 21 43 F5")
@@ -62,6 +63,14 @@ CHARTS = [
     ("B, ChannelData's number as 9F 05", back(b"\x9F\x05" + THREE[1:] + REST_OF_A), None, 0, 5),
     ("B, A5 05 around its ChannelData", back(element(identifier(5, 1), THREE) + REST_OF_A), None, 0, 5),
     ("B and an ESN, which the row does not name", back(ESN + THREE + REST_OF_A), None, 0, 6),
+    ("the same, the ESN of three octets", back(SHORT_ESN + THREE + REST_OF_A), None, 0, 6),
+    ("RegistrationNotification INVOKE with an ESN of three octets",
+     tcap.component(INVOKE, b"\x05", 13, SHORT_ESN + MIN + REST), None, 0, 5),
+    ("the same, the ESN again at the end",
+     tcap.component(INVOKE, b"\x05", 13, SHORT_ESN + MIN + REST + ESN), None, 0, 6),
+    ("B, ChannelData of two octets", back(THREE[:1] + b"\x02\x01\x02" + REST_OF_A), None, 0, 5),
+    ("B, MIN of four octets", back(THREE + CIRCUIT + MIN[:1] + b"\x04" + MIN[2:6] + CELLS), None, 0, 5),
+    ("B, ServingCellID of one octet", back(THREE + CIRCUIT + MIN + b"\x82\x01\x11" + CELLS[4:]), None, 0, 5),
     ("B, component ID of three octets",
      back(THREE + REST_OF_A, bytes.fromhex("CF 03 05 06 07") + HEAD[3:]), None, 0, 5),
     ("B, length of TargetCellID as 04", back(THREE + REST_OF_A[:-3] + b"\x04" + REST_OF_A[-2:]), None, 0, 5),

@@ -54,11 +54,13 @@ def print_zero(folder, program):
     numbers = sorted(drafts.NAMES)
     rows = [next(row for row in drafts.ROWS if number in drafts.named(row)) for number in numbers]
     cases = [(zero_draft(dice, number, row), row[1]) for number, row in zip(numbers, rows)]
-    assert all(answer[0] == 0 for answer in second.listing(program, cases))
-    for number, (octets, _), seen in zip(numbers, cases, dissect.dissect(folder, cases)):
-        groups.setdefault(zero_outcome(octets, seen), []).append(str(number))
-    lines = [(outcome, len(group), " ".join(group)) for outcome, group in groups.items()]
-    print_table(["tshark, given a parameter of no octets", "Parameters", "Their numbers"], lines)
+    answers = [answer[0] for answer in second.listing(program, cases)]
+    assert set(answers) == {0, 26}
+    for number, answer, (octets, _), seen in zip(numbers, answers, cases, dissect.dissect(folder, cases)):
+        groups.setdefault((zero_outcome(octets, seen), answer or "accepted"), []).append(str(number))
+    by_outcome = sorted(groups.items(), key=lambda one: one[0][0])
+    lines = [(*outcome, len(group), " ".join(group)) for outcome, group in by_outcome]
+    print_table(["tshark, given a parameter of no octets", "Roadquill", "Parameters", "Their numbers"], lines)
 
 
 def compare(octets, seen):
