@@ -83,39 +83,9 @@ two = 0xEA ∷ 0x09 ∷ 0xCF ∷ 0x01 ∷ 0x05 ∷ 0xF2 ∷ 0x04 ∷ 0x85 ∷ 0x
 shown-two : reader two 4 zeros ≡ at 3 (map expected living)
 shown-two = ap (at 3) rows-live
 
--- a REJECT with the problem octets 02 03, one with two ID octets, and an ERROR that ends where its code is wanted
+-- a REJECT with the problem octets 02 03
 abbrev reject : Octets
 reject = 0xEC ∷ 0x0A ∷ 0xCF ∷ 0x00 ∷ 0xD5 ∷ 0x02 ∷ 0x02 ∷ 0x03 ∷ 0xF2 ∷ 0x02 ∷ 0x89 ∷ 0x00 ∷ []
-
-abbrev reject-of-two : Octets
-reject-of-two = 0xEC ∷ 0x0A ∷ 0xCF ∷ 0x02 ∷ 0x05 ∷ 0x06 ∷ 0xD5 ∷ 0x02 ∷ 0x01 ∷ 0x01 ∷ 0xF2 ∷ 0x00 ∷ []
-
-abbrev error-ended : Octets
-error-ended = 0xEB ∷ 0x03 ∷ 0xCF ∷ 0x01 ∷ 0x05 ∷ []
-
--- a RESULT with every length padded
-abbrev padded : Octets
-padded = 0xEA ∷ 0x82 ∷ 0x00 ∷ 0x0C ∷ 0xCF ∷ 0x81 ∷ 0x01 ∷ 0x05 ∷ 0xF2 ∷ 0x82 ∷ 0x00 ∷ 0x04 ∷ 0x85 ∷ 0x82 ∷ 0x00 ∷ 0x00 ∷ []
-
-abbrev form-80 : Octets
-form-80 = 0xE9 ∷ 0x80 ∷ []
-
--- an InterSystemPage with BillingID and what is behind it, and what is told of it
-abbrev page : (octets set : ℕ) → Octets → Octets
-page n m ps = 0xE9 ∷ n ∷ 0xCF ∷ 0x01 ∷ 0x05 ∷ 0xD1 ∷ 0x02 ∷ 0x09 ∷ 0x20 ∷ 0xF2 ∷ m ∷ 0x81 ∷ 0x00 ∷ ps
-
-abbrev paged : (all : ℕ) → Told
-paged n = record { kind = 0xE9; id = record { count = 1; first = 5; second = 0 }; code = record { first = 32; second = 0 }; all = n; named = n; other = 0 }
-
--- behind BillingID: NetworkTMSI, ESN, IMSI and MIN; ESN and NetworkTMSI; ESN and the group's constructors
-abbrev several : Octets
-several = 0x9F ∷ 0x81 ∷ 0x69 ∷ 0x00 ∷ 0x89 ∷ 0x04 ∷ 0x00 ∷ 0x00 ∷ 0x00 ∷ 0x00 ∷ 0x9F ∷ 0x81 ∷ 0x72 ∷ 0x00 ∷ 0x88 ∷ 0x05 ∷ 0x00 ∷ 0x00 ∷ 0x00 ∷ 0x00 ∷ 0x00 ∷ []
-
-abbrev temporary : Octets
-temporary = 0x89 ∷ 0x04 ∷ 0x00 ∷ 0x00 ∷ 0x00 ∷ 0x00 ∷ 0x9F ∷ 0x81 ∷ 0x69 ∷ 0x00 ∷ []
-
-abbrev twins : Octets
-twins = 0x89 ∷ 0x04 ∷ 0x00 ∷ 0x00 ∷ 0x00 ∷ 0x00 ∷ 0xA8 ∷ 0x00 ∷ 0xBF ∷ 0x81 ∷ 0x72 ∷ 0x00 ∷ 0xBF ∷ 0x81 ∷ 0x69 ∷ 0x00 ∷ []
 
 chart-octets : AreOctets chart
 chart-octets = are-octets chart refl
@@ -151,6 +121,13 @@ module _ (r : Reader) (w : Writer) (d : Demands r w) where
   ours-is : (s : Octets) (given : ℕ) (t : List ℕ) → AreOctets s → r s given t ≡ reader s given t
   unfolding OnlyOne
   ours-is = only-one r w d .0
+
+  -- chart `i` of `living` is read as it says
+  abbrev pub Reads : ℕ → Type 0
+  Reads i = r (charted i .octets) (charted i .specifier) zeros ≡ charted i .read
+
+  as-charted : (i : ℕ) → below (charted i .octets) ≡ true → reads (charted i) ≡ charted i .read → Reads i
+  as-charted i o e = ours-is (charted i .octets) (charted i .specifier) zeros (are-octets (charted i .octets) o) ∙ e
 
   pub not-always-refusing : ((s : Octets) (given : ℕ) (t : List ℕ) → (n : ℕ) × (e : ℕ) × (r s given t .answer ≡ refused n e)) → ⊥
   not-always-refusing h =
@@ -256,12 +233,12 @@ module _ (r : Reader) (w : Writer) (d : Demands r w) where
       same : {x y : Told} → _≡_ {A = Answer Told} (accepted x) (accepted y) → x ≡ y
       same q = cc
 
-  pub two-in-a-reject-refused : r reject-of-two 0 zeros ≡ read (refused 6 2) zeros
-  two-in-a-reject-refused = ours-is reject-of-two 0 zeros (are-octets reject-of-two refl) ∙ ap (at 41) rows-live
+  pub two-in-a-reject-refused : Reads 41
+  two-in-a-reject-refused = as-charted 41 refl (ap (at 41) rows-live)
 
   -- 25 where the parent has ended, before 21 can be asked
-  pub ended-before-the-code : r error-ended 0 zeros ≡ read (refused 25 5) zeros
-  ended-before-the-code = ours-is error-ended 0 zeros (are-octets error-ended refl) ∙ ap (at 38) rows-live
+  pub ended-before-the-code : Reads 38
+  ended-before-the-code = as-charted 38 refl (ap (at 38) rows-live)
 
   -- ---- 5, 20 and 25, over any octets: of any type, and with lengths of any form
   module _ (given : ℕ) (t : List ℕ) (enough : tableSize ≤ length t) where
@@ -312,11 +289,11 @@ module _ (r : Reader) (w : Writer) (d : Demands r w) where
     longer-run-is-9 a b c rest m h k l = behind-the-code _ (λ at. NoSet.inside m (InSet.no-identifier λ number form head s i. no-longer-run s i h k l))
 
   -- ---- padded lengths
-  pub leading-zero-taken : r padded 4 zeros ≡ read (accepted (record { kind = 0xEA; id = record { count = 1; first = 5; second = 0 }; code = record { first = 4; second = 0 }; all = 1; named = 1; other = 0 })) (5 ∷ 0 ∷ 16 ∷ 0 ∷ 12 ∷ replicate 315 0)
-  leading-zero-taken = ours-is padded 4 zeros (are-octets padded refl) ∙ ap (at 44) rows-live
+  pub leading-zero-taken : Reads 44
+  leading-zero-taken = as-charted 44 refl (ap (at 44) rows-live)
 
-  pub form-80-refused : r form-80 0 zeros ≡ read (refused 4 1) zeros
-  form-80-refused = ours-is form-80 0 zeros (are-octets form-80 refl) ∙ ap (at 48) rows-live
+  pub form-80-refused : Reads 48
+  form-80-refused = as-charted 48 refl (ap (at 48) rows-live)
 
   pub padding-not-copied : (s : Octets) (given : ℕ) (t : List ℕ) (out : Octets) {x : Told} {c : Component} → AreOctets s → r s given t .answer ≡ accepted x →
       (h : Laid c s) → length s ≤ length out → (Shortest h → ⊥) → (n : ℕ) × (w (handed x (r s given t .table) s) out .answer ≡ accepted n) × (n < length s)
@@ -332,22 +309,22 @@ module _ (r : Reader) (w : Writer) (d : Demands r w) where
 
   -- ---- groups, each by one page; `Groups` has what holds of any run
   -- ESN and all of the group are missing
-  pub group-asked-last : r (page 0x0B 0x02 []) 0 zeros ≡ read (refused 13 9) zeros
-  group-asked-last = ours-is _ 0 zeros (are-octets (page 0x0B 0x02 []) refl) ∙ ap (at 56) rows-live
+  pub group-asked-last : Reads 56
+  group-asked-last = as-charted 56 refl (ap (at 56) rows-live)
 
-  pub group-gives-its-first : r (page 0x11 0x08 (0x89 ∷ 0x04 ∷ 0x00 ∷ 0x00 ∷ 0x00 ∷ 0x00 ∷ [])) 0 zeros ≡ read (refused 13 8) zeros
-  group-gives-its-first = ours-is _ 0 zeros (are-octets (page 0x11 0x08 (0x89 ∷ 0x04 ∷ 0x00 ∷ 0x00 ∷ 0x00 ∷ 0x00 ∷ [])) refl) ∙ ap (at 55) rows-live
+  pub group-gives-its-first : Reads 55
+  group-gives-its-first = as-charted 55 refl (ap (at 55) rows-live)
 
-  pub several-taken : r (page 0x20 0x17 several) 0 zeros .answer ≡ accepted (paged 5)
-  several-taken = ap (λ x. x .answer) (ours-is _ 0 zeros (are-octets (page 0x20 0x17 several) refl) ∙ ap (at 54) rows-live)
+  pub several-taken : Reads 54
+  several-taken = as-charted 54 refl (ap (at 54) rows-live)
 
   -- NetworkTMSI alone: named, and none is other
-  pub network-TMSI-named : r (page 0x15 0x0C temporary) 0 zeros .answer ≡ accepted (paged 3)
-  network-TMSI-named = ap (λ x. x .answer) (ours-is _ 0 zeros (are-octets (page 0x15 0x0C temporary) refl) ∙ ap (at 53) rows-live)
+  pub network-TMSI-named : Reads 53
+  network-TMSI-named = as-charted 53 refl (ap (at 53) rows-live)
 
   -- the three members as constructors
-  pub twins-are-others : r (page 0x1B 0x12 twins) 0 zeros ≡ read (refused 13 8) zeros
-  twins-are-others = ours-is _ 0 zeros (are-octets (page 0x1B 0x12 twins) refl) ∙ ap (at 57) rows-live
+  pub twins-are-others : Reads 57
+  twins-are-others = as-charted 57 refl (ap (at 57) rows-live)
 
   -- ---- sizes: of any component that is laid out and has nothing again, 26 at the earliest of a wrong size, whatever is missing; `Sized` has what holds
   -- of any run, and the charts one case each
@@ -355,13 +332,6 @@ module _ (r : Reader) (w : Writer) (d : Demands r w) where
       RowFor (c .kind) (itsOperation c given) row → let xs = map itemOf (standing (h .laid)) in Once row (keysOf xs) → First (Missized row) xs x →
       r s given t ≡ read (refused 26 (x .mark)) t
   wrong-size-is-26 s given t o enough h e once f = ours-is s given t o ∙ refused-so s o given t (reader-refuses s o given t (ReaderRefuses.misfit enough h e (missized once f)))
-
-  -- chart `i` of `living` is read as it says
-  abbrev pub Reads : ℕ → Type 0
-  Reads i = r (charted i .octets) (charted i .specifier) zeros ≡ charted i .read
-
-  as-charted : (i : ℕ) → below (charted i .octets) ≡ true → reads (charted i) ≡ charted i .read → Reads i
-  as-charted i o e = ours-is (charted i .octets) (charted i .specifier) zeros (are-octets (charted i .octets) o) ∙ e
 
   pub three-octets-of-channel-data-taken : Reads 77
   three-octets-of-channel-data-taken = as-charted 77 refl (ap (at 77) rows-live)

@@ -38,7 +38,7 @@ module _ (f : ℕ → ℕ) where
       let k = x .is in
       rw (occurs-marked k s) (also (test (not (named row k && (not (repeats k) && occurs k s))) 12 (x .mark) λ _. refl) (once-marked row (x ∷ s) xs))
 
-  sized-marked : (row : Row) (xs : List Item) → Moved (sized (named row) (map (remark f) xs)) (sized (named row) xs)
+  sized-marked : (row : Row) (xs : List Item) → Moved (sized row (map (remark f) xs)) (sized row xs)
   unfolding sized remark
   sized-marked row [] = stays
   sized-marked row (x ∷ xs) = also (test (not (named row (x .is)) || allows (sizes (x .is)) (x .size)) 26 (x .mark) λ _. refl) (sized-marked row xs)

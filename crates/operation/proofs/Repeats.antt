@@ -40,7 +40,7 @@ module _ (row : Row) (t : List ℕ) (count : ℕ) where
   -- and 26, and how many are named, with `n` of the entries before it
   pub record Left (n at : ℕ) : Type 0 where
     pub again : Again at
-    pub right : sized (named row) (itemsFrom t 0 count) ≡ sized (named row) (rest t count at)
+    pub right : sized row (itemsFrom t 0 count) ≡ sized row (rest t count at)
     pub many : countNamed row (itemsFrom t 0 count) ≡ n + countNamed row (rest t count at)
 
   pub begins : Left 0 0
@@ -52,7 +52,7 @@ module _ (row : Row) (t : List ℕ) (count : ℕ) where
     unfolding once
     none-again h = rw (over t count at h)
 
-    pub all-right : count ≤ at → sized (named row) (rest t count at) ≡ accepted tt
+    pub all-right : count ≤ at → sized row (rest t count at) ≡ accepted tt
     unfolding sized
     all-right h = rw (over t count at h)
 
@@ -91,6 +91,6 @@ module _ (row : Row) (t : List ℕ) (count : ℕ) where
           pub fits : (not (repeats k) && occurs k (earlier t at)) ≡ false → allows (sizes k) (itemAt t at .size) ≡ true → Left (n + 1) (at + 1)
           fits o s = goes-on (rw (← e) o) (rw (← e) s) (rw (← e) (omega arith))
 
-          pub wrong : allows (sizes k) (itemAt t at .size) ≡ false → sized (named row) (itemsFrom t 0 count) ≡ refused 26 at
+          pub wrong : allows (sizes k) (itemAt t at .size) ≡ false → sized row (itemsFrom t 0 count) ≡ refused 26 at
           unfolding sized itemAt
           wrong s = l .right ∙ rw (more t count at h) (simp (← f, ← e, s))

@@ -117,12 +117,12 @@ module _ (row : Row) where
   pub not-missized : (x : Item) → (Missized row x → ⊥) → Sized row x
   not-missized x h = ⊎-elim (λ m. absurd (h m)) (λ s. s) (either-size x)
 
-  sized-passes : {xs : List Item} → Each (Sized row) xs → sized (named row) xs ≡ accepted tt
+  sized-passes : {xs : List Item} → Each (Sized row) xs → sized row xs ≡ accepted tt
   unfolding sized
   sized-passes none = refl
   sized-passes (more {x = x} s e) = rw (right x s) (sized-passes e)
 
-  sized-refuses : {xs : List Item} {x : Item} → First (Missized row) xs x → sized (named row) xs ≡ refused 26 (x .mark)
+  sized-refuses : {xs : List Item} {x : Item} → First (Missized row) xs x → sized row xs ≡ refused 26 (x .mark)
   unfolding sized
   sized-refuses (First.here (n, a)) = rw (n, a)
   sized-refuses (First.later {y = y} h f) = rw (right y (not-missized y h)) (sized-refuses f)

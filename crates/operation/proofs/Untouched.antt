@@ -26,7 +26,7 @@ once-same s done = refl
 once-same {row} s (kept x g) = rw (only (named row (x .is)) _ (same s (x .is)), once-same (kept x s) g)
 once-same s (newcomer x e g) = rw e (once-same (newcomer x e s) g)
 
-sized-same : {row : Row} {xs ys : List Item} → Grown row xs ys → sized (named row) ys ≡ sized (named row) xs
+sized-same : {row : Row} {xs ys : List Item} → Grown row xs ys → sized row ys ≡ sized row xs
 unfolding sized
 sized-same done = refl
 sized-same (kept x g) = rw (sized-same g)

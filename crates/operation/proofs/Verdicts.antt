@@ -17,13 +17,13 @@ use Rattle.operation.specs.declared.Notes as N
 
 module _ (row : Row) (xs : List Item) where
   -- 12, or else 26
-  pub faulty : {stop : ℕ} → (once row [] xs ≡ accepted tt → sized (named row) xs ≡ refused 26 stop) → {r : Answer ℕ} →
+  pub faulty : {stop : ℕ} → (once row [] xs ≡ accepted tt → sized row xs ≡ refused 26 stop) → {r : Answer ℕ} →
       r ≡ (once row [] xs >> refused 26 stop) → r ≡ judgement row xs
   unfolding judgement judge
   faulty {stop} h {r} e = e ∙ go (once row [] xs) refl
     where
       go : (a : Answer Unit) → once row [] xs ≡ a →
-          _≡_ {A = Answer ℕ} (a >> refused 26 stop) ((a >> sized (named row) xs >> present row xs >> single row xs) >> accepted (countNamed row xs))
+          _≡_ {A = Answer ℕ} (a >> refused 26 stop) ((a >> sized row xs >> present row xs >> single row xs) >> accepted (countNamed row xs))
       go (accepted u) q = rw (h q)
       go (refused n d) q = refl
 
@@ -49,7 +49,7 @@ unfolding once named
 nothing-again seen [] = refl
 nothing-again seen (x ∷ xs) = nothing-again (x ∷ seen) xs
 
-nothing-sized : (xs : List Item) → sized (named []) xs ≡ accepted tt
+nothing-sized : (xs : List Item) → sized [] xs ≡ accepted tt
 unfolding sized named
 nothing-sized [] = refl
 nothing-sized (x ∷ xs) = nothing-sized xs

@@ -32,7 +32,7 @@ pub data Each {A : Type 0} (P : A → Type 0) : List A → Type 0 where
 abbrev pub Once : Row → List ℕ → Type 0
 Once row ks = (k : ℕ) → named row k ≡ true → repeats k ≡ false → times k ks ≤ 1
 
--- what the row names, of a size that is fixed for it
+-- what the row names has a size that it may have
 abbrev pub Sized : Row → Item → Type 0
 Sized row x = named row (x .is) ≡ true → allows (sizes (x .is)) (x .size) ≡ true
 

@@ -31,7 +31,7 @@ Doubled ks (oneOf i j) = (1 ≤ times i ks) × (1 ≤ times j ks)
 Doubled ks (anyOf i js) = ⊥
 Doubled ks (may j) = ⊥
 
--- the row names it, and its size is none of those fixed for it
+-- the row names it, and it may not have its size
 abbrev pub Missized : Row → Item → Type 0
 Missized row x = (named row (x .is) ≡ true) × (allows (sizes (x .is)) (x .size) ≡ false)
 

@@ -24,12 +24,12 @@ once row seen (x ∷ xs) = do
   check (not (named row (x .is) && (not (repeats (x .is)) && occurs (x .is) seen))) 12 (x .mark)
   once row (x ∷ seen) xs
 
--- 26: what is named has a size that is fixed for it
-unfoldable pub sized : (named : ℕ → Bool) → List Item → Answer Unit
-sized named [] = accepted tt
-sized named (x ∷ xs) = do
-  check (not (named (x .is)) || allows (sizes (x .is)) (x .size)) 26 (x .mark)
-  sized named xs
+-- 26: what the row names has a size that it may have
+unfoldable pub sized : Row → List Item → Answer Unit
+sized row [] = accepted tt
+sized row (x ∷ xs) = do
+  check (not (named row (x .is)) || allows (sizes (x .is)) (x .size)) 26 (x .mark)
+  sized row xs
 
 -- 13: what must occur does
 unfoldable pub met : Line → List Item → Bool
@@ -54,7 +54,7 @@ single [] xs = accepted tt
 single (l ∷ ls) xs = check (not (doubled l xs)) 14 (lastMark l 0 xs) >> single ls xs
 
 unfoldable pub judge : Row → List Item → Answer Unit
-judge row xs = once row [] xs >> sized (named row) xs >> present row xs >> single row xs
+judge row xs = once row [] xs >> sized row xs >> present row xs >> single row xs
 
 unfoldable pub countNamed : Row → List Item → ℕ
 countNamed row [] = 0

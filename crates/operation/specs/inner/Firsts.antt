@@ -16,7 +16,7 @@ use Rattle.operation.specs.declared.Missing.the-variants as MV
 -- a run in which nothing occurs again and no size is wrong: what the row names of it is counted, and noted
 pub record Clear (row : Row) (notes : N.Notes) (xs : List Item) : Type 0 where
   pub again : once row [] xs ≡ accepted tt
-  pub right : sized (named row) xs ≡ accepted tt
+  pub right : sized row xs ≡ accepted tt
   pub counted : notes .named ≡ countNamed row xs
   pub noted : (k : ℕ) → holds (notes .seen) k ≡ (named row k && occurs k xs)
 
@@ -25,7 +25,7 @@ pub record Clear (row : Row) (notes : N.Notes) (xs : List Item) : Type 0 where
 pub record Walked (notes : N.Notes) (names : List ℕ) (count : ℕ) (xs : List Item) : Type 0 where
   pub through : count ≤ notes .stop → (row : Row) → Names row names → Clear row notes xs
   pub stopped : notes .stop < count → (row : Row) → Names row names → once row [] xs ≡ accepted tt →
-      sized (named row) xs ≡ refused 26 (notes .stop)
+      sized row xs ≡ refused 26 (notes .stop)
 
 -- 12 of a run that is not clear, and else 26 there
 pub record Faulted (r : J.Judged) (names : List ℕ) (stop : ℕ) (xs : List Item) : Type 0 where
