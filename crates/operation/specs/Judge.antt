@@ -5,7 +5,21 @@ use mathlib.Core.List.{List, [], _∷_}
 use lib.Dec.{eqb}
 use Rattle.element.specs.Octets.{if}
 use Rattle.element.specs.Answer.{Answer, accepted, refused, _>>=_, _>>_, check}
-use Rattle.operation.specs.Row.{Line, must, oneOf, anyOf, may, asks, Row, someOf, onLine, named, repeats, allows, Item}
+use Rattle.operation.specs.Row.{
+  Line,
+  must,
+  oneOf,
+  anyOf,
+  may,
+  asks,
+  Row,
+  someOf,
+  onLine,
+  named,
+  repeats,
+  allows,
+  Item,
+}
 use Rattle.operation.specs.Rows.{sizes}
 
 unfoldable pub occurs : ℕ → List Item → Bool

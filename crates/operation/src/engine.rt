@@ -67,8 +67,8 @@ fn last_of(one: u64, other: u64, table: &[u16], count: usize) -> usize
 
 // ---- the judgement
 
-// A walk that goes on while nothing of 12 and 26 is amiss: it notes each entry that the row names, and stops at the first
-// that was noted before and may not repeat, or whose size is wrong. What is not noted did not occur before.
+// A walk that goes on while nothing of 12 and 26 is amiss: it notes each entry that the row names, and stops at the
+// first that was noted before and may not repeat, or whose size is wrong. What is not noted did not occur before.
 pub(crate) fn note(names: &[u64], table: &[u16], count: usize) -> Notes
     requires { ⌜ (width * count ≤ length (now table)) × (count ≤ 64) × (length (now names) ≤ 13) ⌝ }
     ensures { λ r. ⌜ Walked r (now (names .entry)) count (itemsFrom (now (table .entry)) 0 count) ⌝ }
@@ -103,9 +103,9 @@ pub(crate) fn note(names: &[u64], table: &[u16], count: usize) -> Notes
     Notes { stop, named, seen }
 }
 
-// 12, or else 26, of a run that `note` left at `stop`: the first entry that occurred before, of those that the row names
-// and may not repeat; where none did, the size at `stop` is the first wrong one. The first entry with a key is at the
-// latest the one that is looked at.
+// 12, or else 26, of a run that `note` left at `stop`: the first entry that occurred before, of those that the row
+// names and may not repeat; where none did, the size at `stop` is the first wrong one. The first entry with a key is at
+// the latest the one that is looked at.
 pub(crate) fn fault(names: &[u64], table: &[u16], count: usize, stop: usize) -> Judged
     requires { ⌜ (width * count ≤ length (now table)) × (count ≤ 64) ⌝ }
     ensures { λ r. ⌜ Faulted r (now (names .entry)) stop (itemsFrom (now (table .entry)) 0 count) ⌝ }

@@ -188,8 +188,8 @@ const MIN_KEY: u64 = MIN as u64;
 const IMSI_KEY: u64 = IMSI as u64;
 
 // What the row of an invoke says of `count` entries of a table. The compiler unrolls `note` and `settle` in the arm,
-// where it knows the row; with `fault` in one of them it would not, so the arm calls that too. A constant that is lent is
-// stored where the function starts, and one that an arm copies is stored there alone.
+// where it knows the row; with `fault` in one of them it would not, so the arm calls that too. A constant that is lent
+// is stored where the function starts, and one that an arm copies is stored there alone.
 fn judge_invoke(specifier: u8, table: &[u16], count: usize) -> Judged
     requires { ⌜ (width * count ≤ length (now table)) × (count ≤ 64) ⌝ }
     ensures { λ r. ⌜ judgedIn r ≡ verdict 0xE9 specifier (itemsFrom (now (table .entry)) 0 count) ⌝ }

@@ -1,4 +1,5 @@
-// The sizes of the paper, in octets: of an identifier, so for all rows alike. Each key that has one is of the first word.
+// The sizes of the paper, in octets: of an identifier, so for all rows alike. Each key that has one is of the first
+// word.
 use super::names;
 ghost use mathlib.Core.Path.{_≡_};
 ghost use mathlib.Core.Bool.{not};

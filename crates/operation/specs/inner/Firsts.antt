@@ -47,5 +47,6 @@ missingIn MV.None = accepted tt
 missingIn (MV.Number number) = refused 13 number
 
 -- 13 and 14 of a run that is clear, at any row that asks for what the list holds
-pub record Settles (r : J.Judged) (list group : List ℕ) (one other : ℕ) (notes : N.Notes) (xs : List Item) : Type 0 where
+pub record Settles (r : J.Judged) (list group : List ℕ) (one other : ℕ) (notes : N.Notes)
+    (xs : List Item) : Type 0 where
   pub judged : (row : Row) → Asks row list group one other → Clear row notes xs → judgedIn r ≡ judgement row xs
