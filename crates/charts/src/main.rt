@@ -5,6 +5,8 @@
 // lengths, and E9 82 00 05; EA with 85 01 in its set, with 85 00 behind the set and behind the component, and ended
 // where the set is wanted; and A, of whose first entry, ChannelData, the table then shows where the contents start,
 // their length, and the place of the identifier.
+#![tactic(auto)]
+
 use libc::{STDIN_FILENO, STDOUT_FILENO};
 
 fn print(number: u16, mark: &[u8]) {

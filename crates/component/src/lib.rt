@@ -1,4 +1,6 @@
 // One component: the steps of its layout, a part of it handed back, and its octets composed.
+#![tactic(auto)]
+
 mod composing;
 mod reading;
 mod types;
@@ -13,7 +15,7 @@ pub const WIDTH: usize = 5;
 pub const TABLE: usize = 64 * WIDTH;
 
 // The octets of a component ID: `count` of them, and 0 where there is none.
-#[derive(Drop)]
+#[derive(Clone, Copy)]
 pub struct Id {
     pub count: u8,
     pub first: u8,
@@ -29,7 +31,7 @@ pub enum Span {
 
 // The code of a component, as it is told and handed in: the specifier of an INVOKE or of a RESULT's operation, the
 // error octet, or the two problem octets. The second is 0, and not looked at, but in a REJECT.
-#[derive(Drop)]
+#[derive(Clone, Copy)]
 pub struct Code {
     pub first: u8,
     pub second: u8,
@@ -37,7 +39,7 @@ pub struct Code {
 
 // All but the parameters: the octets of the component ID go from `id` to `behind`, the code starts at `code`, and the
 // parameters at `set`. A RESULT has no code: the set stands there.
-#[derive(Drop)]
+#[derive(Clone, Copy)]
 pub struct Heading {
     pub kind: u8,
     pub id: usize,

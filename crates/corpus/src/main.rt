@@ -1,4 +1,6 @@
 // Lists a file of tagged fields that an independent program made, and says the same of it as that program.
+#![tactic(auto)]
+
 use libc::{STDIN_FILENO, STDOUT_FILENO};
 
 fn main() {

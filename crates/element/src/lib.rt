@@ -1,5 +1,7 @@
 // Lengths and identifiers: what stands at the head of the octets that are left of the parent, and the field that says
 // a length or an identifier, by value.
+#![tactic(auto)]
+
 ghost use Rattle.std.specs.Prelude.{◌≡◌, ◌%◌, ◌<◌};
 ghost use Rattle.element.specs.Encoded.{field_of};
 ghost use Rattle.element.specs.Length.{shortest, field_size};

@@ -1,4 +1,6 @@
 // The names of the error codes by Table 6: each a part of one string, and put into a lent output.
+#![tactic(auto)]
+
 ghost use Rattle.std.specs.Prelude.{◌≡◌, ◌++◌, ◌≤◌, length, drop};
 ghost use Rattle.element.specs.Output.{written, output_after};
 ghost use Rattle.errors.specs.Table6.{names, part_of};

@@ -2,6 +2,8 @@
 // contract can say what is read or written, so these functions are proved safe and ending and state no outcome. What a
 // field does to the run is `lines::list_field`, or `lines::list_package`, which state all of it. A read or a write that
 // fails ends the run, and is said on standard error.
+#![tactic(auto)]
+
 ghost use Rattle.std.specs.Prelude.{◌≤◌, length};
 
 use lines::{Field, Kept, LONGEST_PACKAGE, Listed};

@@ -1,4 +1,6 @@
 // The listing on values and slices: the header of a tagged field, what a field does to the run, the line of a reading.
+#![tactic(auto)]
+
 mod packages;
 
 ghost use Rattle.std.specs.Prelude.{◌≡◌, ◌+◌, ◌<◌, ◌≤◌, length};

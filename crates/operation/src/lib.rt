@@ -1,4 +1,6 @@
 // The operation rows over a component: reading and writing.
+#![tactic(auto)]
+
 mod engine;
 mod names;
 mod rows;

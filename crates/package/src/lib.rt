@@ -1,4 +1,6 @@
 // Whole packages: their layout, the components in them by the component's own reader and writer, and Table 2.
+#![tactic(auto)]
+
 mod carriage;
 mod layout;
 mod reading;

@@ -1,4 +1,6 @@
 // Lists the packages of the tagged fields on standard input.
+#![tactic(auto)]
+
 use libc::{STDIN_FILENO, STDOUT_FILENO};
 
 fn main() {

@@ -1,4 +1,6 @@
 // The readers and writers of components and of packages, and the names of errors, for C: numbers and slices alone.
+#![tactic(auto)]
+
 ghost use Rattle.std.specs.Prelude.{◌≡◌, map, length};
 ghost use Rattle.element.specs.Output.{written, output_after};
 ghost use Rattle.errors.specs.Naming.{naming};

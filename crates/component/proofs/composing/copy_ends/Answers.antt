@@ -1,0 +1,13 @@
+-- `component::copy_ends` meets its contract.
+use borrow.Author.Rules.{rules}
+use Prim.Native.Nat.{◌-◌}
+use native.Mathlib.Omega.{arith}
+use Rattle.component.proofs.Putting.{both_ends}
+use Rattle.component.proofs.composing.copy_ends.Goals as goal
+
+pub returns : goal.returns
+returns c =
+    let start = c.before.before.before.before.before.before.before.before.before.before.before in
+    let a = start.args in
+    both_ends _ _ (a.size - a.width) a.width a.width a.size (omega arith) (omega arith) (omega arith) start.requires.0 start.requires.1
+    c.copy_block.ensures c.copy_block-2.ensures

@@ -1,0 +1,21 @@
+-- `component::put_fitting` meets its contract. The invariant: what is left of the octets, behind those that are put down.
+use Prim.Native.Nat.{◌+◌, ◌-◌, ◌≤◌, ◌<◌}
+use mathlib.Core.Path.{◌≡◌}
+use mathlib.Core.Logic.{⊎_elim}
+use lib.ListN.{length}
+use Rattle.component.specs.Table.{held, held_from, EntryStands}
+use Rattle.component.specs.inner.Emitting.{Put, fitting}
+use Rattle.component.proofs.Entries.{stands_true}
+use Rattle.component.proofs.Room.{octets_at, size_at, at_most, rest, rest_all, rest_none, no_stand, no_room, room_for, more_put}
+use borrow.Author.Rules.{rules}
+use native.Mathlib.Omega.{arith}
+use Rattle.component.proofs.Putting.{Left, begins, ends}
+use Rattle.component.proofs.composing.put_fitting.Given as goal
+
+abbrev pub invariant-entries : goal.invariant-entries
+invariant-entries l =
+    (l.i ≤ l.count) × (length l.out ≡ length l.initial.out) × (l.next ≤ length l.initial.out)
+    × Left (fitting l.source (length l.initial.out - l.at) (held_from 0 l.count l.table)) l.at l.initial.out (rest l.count l.table l.source (length l.initial.out - l.next) l.i) l.next l.out
+
+abbrev pub decreases-entries : goal.decreases-entries
+decreases-entries l = l.count - l.i

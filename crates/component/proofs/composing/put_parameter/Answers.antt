@@ -1,0 +1,24 @@
+-- `component::put_parameter` meets its contract.
+use borrow.Author.Rules.{rules}
+use native.Mathlib.Omega.{arith}
+use Rattle.component.proofs.Composition.{parameter, parameter_room}
+use Rattle.component.proofs.Putting.{then}
+use Rattle.component.proofs.composing.put_parameter.Goals as goal
+
+pub put_identifier-field-requires : goal.put_identifier-field-requires
+put_identifier-field-requires c = omega (arith, parameter_room _ _ _ _ c.requires.2 _ c.requires.4)
+
+pub put_length-contents-requires : goal.put_length-contents-requires
+put_length-contents-requires c = omega (arith, parameter_room _ _ _ _ c.requires.2 _ c.requires.4)
+
+pub copy_octets-requires : goal.copy_octets-requires
+copy_octets-requires c = omega (arith, parameter_room _ _ _ _ c.requires.2 _ c.requires.4)
+
+pub returns : goal.returns
+returns c =
+    let sized = c.before.before.before.before.before.before.before in
+    let named = sized.before.before.before.before in
+    let start = named.before.before.before.before in
+    let room = parameter_room _ _ _ _ start.requires.2 _ start.requires.4 in
+    rw (← parameter _ _ _ _ start.requires.2)
+    (then (then named.put_identifier-field.ensures sized.put_length-contents.ensures (omega arith)) c.copy_octets.ensures (omega arith))

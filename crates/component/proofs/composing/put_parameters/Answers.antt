@@ -1,0 +1,44 @@
+-- `component::put_parameters` meets its contract.
+use Prim.Native.Nat.{◌-◌, ◌≤◌}
+use mathlib.Core.Path.{◌≡◌}
+use lib.ListN.{length}
+use Rattle.component.specs.Composed.{set_of}
+use Rattle.component.specs.Table.{parameters_from}
+use Rattle.component.proofs.Entries.{stands}
+use Rattle.component.proofs.Emission.{rest, rest_all, rest_none, room_for, more_put}
+use borrow.Author.Rules.{rules}
+use native.Mathlib.Omega.{arith}
+use Rattle.component.proofs.Putting.{Left, begins, ends}
+use Rattle.component.proofs.composing.put_parameters.Goals as goal
+
+pub entries-init : goal.entries-init
+entries-init c = (search rules, search rules, rw (← rest_all _ _ _) begins)
+
+pub put_parameter-next-requires : goal.put_parameter-next-requires
+put_parameter-next-requires c =
+    let two = c.before.before.before.before in
+    let one = two.before.before in
+    let turn = one.before.before in
+    let head = turn.before in
+    let s = stands (head.requires.2 _ turn.entries-test.true) in (
+      s.number,
+      s.form,
+      omega (arith, s.content),
+      search rules,
+      room_for _ _ _ _ turn.entries-test.true one.wide-start.ensures.0 two.wide-size.ensures.0 head.entries.invariant.2 (omega arith),
+    )
+
+pub entries-preserved : goal.entries-preserved
+entries-preserved c =
+    let two = c.before.before.before.before.before.before.before in
+    let one = two.before.before in
+    let turn = one.before.before in
+    let left = turn.entries.invariant.2 in (
+      search rules,
+      omega arith,
+      more_put _ _ _ _ turn.entries-test.true one.wide-start.ensures.0 two.wide-size.ensures.0 left
+          c.put_parameter-next.ensures (omega (arith, left.place, turn.requires.3)),
+    )
+
+pub returns : goal.returns
+returns c = ends (rw (rest_none _ _ _ _ c.entries-test.false) at c.entries.invariant.2)

@@ -1,0 +1,19 @@
+-- `component::put_parameters` meets its contract.
+use Prim.Native.Nat.{◌-◌, ◌≤◌}
+use mathlib.Core.Path.{◌≡◌}
+use lib.ListN.{length}
+use Rattle.component.specs.Composed.{set_of}
+use Rattle.component.specs.Table.{parameters_from}
+use Rattle.component.proofs.Entries.{stands}
+use Rattle.component.proofs.Emission.{rest, rest_all, rest_none, room_for, more_put}
+use borrow.Author.Rules.{rules}
+use native.Mathlib.Omega.{arith}
+use Rattle.component.proofs.Putting.{Left, begins, ends}
+use Rattle.component.proofs.composing.put_parameters.Given as goal
+
+abbrev pub invariant-entries : goal.invariant-entries
+invariant-entries l =
+    (l.i ≤ l.count) × (length l.out ≡ length l.initial.out) × Left (set_of (parameters_from 0 l.count l.table l.source)) l.at l.initial.out (rest l.count l.table l.source l.i) l.next l.out
+
+abbrev pub decreases-entries : goal.decreases-entries
+decreases-entries l = l.count - l.i

@@ -1,0 +1,25 @@
+-- `component::set_size` meets its contract.
+use Prim.Native.Nat.{◌*◌, ◌-◌, ◌≤◌}
+use mathlib.Core.Path.{◌≡◌, sym, ◌∙◌}
+use Rattle.component.specs.Composing.{entries_from}
+use Rattle.component.specs.inner.Emitting.{sized}
+use Rattle.component.proofs.Counting.{left, begins, ends, goes_on, stops}
+use borrow.Author.Rules.{rules}
+use native.Mathlib.Omega.{arith}
+use Rattle.component.proofs.composing.set_size.Goals as goal
+
+pub entries-init : goal.entries-init
+entries-init c = (search rules, search rules, begins _ _ _)
+
+pub entries-preserved : goal.entries-preserved
+entries-preserved c =
+    let turn = c.before.before.before in
+    (search rules, omega arith, turn.entries.invariant.2 ∙ sym (goes_on _ _ _ _ _ turn.if-count-i.false c.entry_size-size.ensures.0 c.if-size-eq0.false))
+
+pub returns-then-count-i : goal.returns-then-count-i
+returns-then-count-i c = (ends _ _ _ _ _ c.if-count-i.true ∙ sym c.entries.invariant.2, omega arith)
+
+pub returns-then-size-eq0 : goal.returns-then-size-eq0
+returns-then-size-eq0 c =
+    let turn = c.before.before.before in
+    (stops _ _ _ _ _ turn.if-count-i.false c.entry_size-size.ensures.0 c.if-size-eq0.true ∙ sym turn.entries.invariant.2, tt)

@@ -1,0 +1,18 @@
+-- `component::element_from` meets its contract.
+use borrow.Author.Rules.{rules}
+use borrow.Author.Tests.{le-leb, lt-leb, le-ltb}
+use mathlib.Core.Path.{sym, ◌∙◌}
+use Rattle.component.specs.Layout.{element_from}
+use Rattle.component.proofs.Laying.{element_within}
+use Rattle.component.proofs.reading.element_from.Goals as goal
+
+pub returns-then-octets-gt4096 : goal.returns-then-octets-gt4096
+unfolding element_from
+returns-then-octets-gt4096 c = simp (lt-leb _ 4096 c.if-octets-gt4096.true)
+
+pub returns-then-octets-at : goal.returns-then-octets-at
+unfolding element_from
+returns-then-octets-at c = simp (le-leb _ 4096 c.if-octets-gt4096.false, le-ltb _ _ c.if-octets-at.true)
+
+pub returns : goal.returns
+returns c = c.contents_at.ensures ∙ sym (element_within _ _ c.if-octets-gt4096.false c.if-octets-at.false)
