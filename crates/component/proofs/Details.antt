@@ -12,7 +12,7 @@ use Rattle.element.proofs.IdentifierLaws as Identifier
 use Rattle.element.specs.Length.{field_size}
 use Rattle.component.specs.Types.{Coding, uncoded, coded, coding_of, code_size}
 use Rattle.component.specs.Layout.{code_octets}
-use Rattle.component.specs.Grammar.{Parameter, Parameters, more, Component, Laid}
+use Rattle.component.specs.Grammar.{Parameter, Parameters, none, more, Component, Laid}
 use Rattle.component.specs.Faults.{component, Unheld, no_field, overrun, Unfound, ended, other, LeftOver, left, InSet, NoSet, NoCode, NoBody, Whole, Faulty, LaidOut}
 use Rattle.component.specs.Table.{Entry, width, held, held_from, parameter_of, parameters_from}
 use Rattle.component.specs.Standing.{entry_at, entries_at, standing, operation_at}
@@ -84,6 +84,7 @@ listed (Faulty.whole h k f) = omega (arith, whole f)
 -- ---- where the entries of a component stand
 placed : (place : ℕ) {ps : List Parameter} {s : Octets} (r : Parameters ps s) {x : Entry} → Memᴰ x (entries_at place r) → x.place ≤ place + length s
 unfolding entries_at entry_at
+placed place none m = elim m [ ]
 placed place (more p n w r) (Memᴰ.head q) = omega (arith, ap (λ x. x.place) q)
 placed place (more p {s = e} {rest = rest} n w r) (Memᴰ.tail m) = omega (arith, length-append e rest, placed (place + length e) r m)
 

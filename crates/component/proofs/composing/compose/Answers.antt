@@ -11,8 +11,7 @@ use Rattle.component.proofs.composing.compose.Tie as tie
 
 sizes : (c : lts.Past-After-known_told tie.the-claims reads.Pre reads.Post) →
     let a = c.args in
-    let m = c.whole-1.given.0 in
-    Found a.kind a.id a.count a.table.now a.source.now m.0 m.1.0 m.1.1.0
+    Found a.kind a.id a.count a.table.now a.source.now c.in-Octets.whole c.in-Octets.body c.in-Octets.set
 sizes c = found _ _ _ _ _ (sym (ap measure_in c.in-Octets.is) ∙ c.measure.ensures)
 
 pub overflow_cast-result : goal.overflow_cast-result
@@ -31,7 +30,7 @@ pub put_parameters-requires : goal.put_parameters-requires
 put_parameters-requires c =
     let headed = c.before.before.before.before in
     let roomy = headed.before.before in
-    set_ready _ _ _ _ _ (sizes roomy.before) _ _ roomy.if-out-whole.false headed.put_head-parameters.ensures headed.put_head-parameters.auto.1.1.1.1.1.0
+    set_ready _ _ _ _ _ (sizes roomy.before) _ _ roomy.if-out-whole.false headed.put_head-parameters.ensures headed.put_head-parameters.auto.out
 
 pub returns-in-Octets : goal.returns-in-Octets
 returns-in-Octets c =

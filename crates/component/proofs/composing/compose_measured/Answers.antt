@@ -51,13 +51,13 @@ put_head-parameters-requires c = rw (bodied c.before.before.before.before.before
 
 -- the head as it was put down
 headed : (c : lts.After-put_head tie.the-claims reads.Pre reads.Post) → let a = c.args in
-    Put (head_octets a.kind a.id a.code (body_size a.kind a.id.count a.set) a.set) 0 a.out.now c.put_head-parameters.result c.put_head-parameters.new.1.1.1.1.1.0
+    Put (head_octets a.kind a.id a.code (body_size a.kind a.id.count a.set) a.set) 0 a.out.now c.put_head-parameters.result c.put_head-parameters.new.out
 headed c = rw (bodied c.before.before.before.before.before, c.wide-2.ensures.0) at c.put_head-parameters.ensures
 
 pub put_fitting-requires : goal.put_fitting-requires
 put_fitting-requires c =
     let h = c.before.before.before.before in
-    (search rules, search rules, omega (arith, (headed h).place, (ready h.before.before.before).3, h.put_head-parameters.auto.1.1.1.1.1.0))
+    (search rules, search rules, omega (arith, (headed h).place, (ready h.before.before.before).3, h.put_head-parameters.auto.out))
 
 pub returns : goal.returns
 returns c =
@@ -66,4 +66,4 @@ returns c =
     let a = d.args in
     all_laid a.kind a.id a.code a.count a.table.now a.source.now a.set a.out.now d.if-octets-gt2.false d.if-count-gt64.false d.if-set-gt4096.false d.if-table-count.false
     (omega (arith, h.if-out-element_size.false, whole h.before.before.before.before))
-    (headed h) h.put_head-parameters.auto.1.1.1.1.1.0 c.put_fitting.ensures
+    (headed h) h.put_head-parameters.auto.out c.put_fitting.ensures

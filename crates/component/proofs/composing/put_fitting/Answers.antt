@@ -11,6 +11,7 @@ use borrow.Author.Rules.{rules}
 use native.Mathlib.Omega.{arith}
 use Rattle.component.proofs.Putting.{Left, begins, ends}
 use Rattle.component.proofs.composing.put_fitting.Goals as goal
+use Rattle.component.proofs.composing.put_fitting.Goals.{else-out-next, then-out-next+else-out-next-2}
 use Rattle.component.proofs.composing.put_fitting.Lts as lts
 use Rattle.component.proofs.composing.put_fitting.Reads as reads
 use Rattle.component.proofs.composing.put_fitting.Tie as tie
@@ -34,9 +35,7 @@ roomy : (c : lts.Joined5 tie.the-claims reads.Pre reads.Post goal.the-invariant-
 roomy c =
     let two = c.before.before.before.before in
     let l = two.before.before.before.before.before.before.before in
-    ⊎_elim (λ w. omega (arith, simp (stands_true (stood c.before)) at w.1.ensures.0, w.2.left))
-    (λ w. omega (arith, at_most (held l.args.table.now l.entries.i) (omega (arith, two.wide-size.ensures)), two.wide-size.ensures.0, w.left))
-    c.if-out-next.branch
+    (elim c.if-out-next.branch [ then-out-next+else-out-next-2 w ↦ omega (arith, simp (stands_true (stood c.before)) at w.entry_size.ensures.0, w.if-out-next-2.false) | else-out-next w ↦ omega (arith, at_most (held l.args.table.now l.entries.i) (omega (arith, two.wide-size.ensures)), two.wide-size.ensures.0, w.if-out-next.false) ])
 
 short : (c : lts.Joined5 tie.the-claims reads.Pre reads.Post goal.the-invariant-entries goal.the-decreases-entries) →
     let l = c.before.before.before.before.before.before.before.before.before.before.before in (held l.args.table.now l.entries.i).size < 65536

@@ -21,7 +21,7 @@ use Rattle.component.proofs.reading.coded_at.Tie as tie
 
 -- how many octets stand before the code
 counted : (c : lts.Joined1 tie.the-claims reads.Pre reads.Post) → (family_size c.args.family ≡ c.if-family.before) × (c.if-family.before ≤ 1)
-counted c = (elim c.if-family.branch [ then-family w ↦ (rw w.0.taken (sym w.1), omega arith) | else-family w ↦ (rw w.0.left (sym w.1), omega arith) ])
+counted c = (elim c.if-family.branch [ then-family w ↦ (rw w.if-family.true (sym w.before-is), omega arith) | else-family w ↦ (rw w.if-family.false (sym w.before-is), omega arith) ])
 
 -- the element that was found
 found : (c : lts.Past-After-known_told tie.the-claims reads.Pre reads.Post) → let a = c.args in wanted a.s.now a.octet a.number a.at a.end ≡ accepted (span c.in-Found.start c.in-Found.code_end)
@@ -55,7 +55,7 @@ returns-then-s-start-ne9 c = rw (sized c.before.before.before.before) (simp (c.i
 pub returns-after-family-2 : goal.returns-after-family-2
 returns-after-family-2 c =
     let a = c.args in
-    let family : (not a.family || eqb (get_or a.s.now c.in-Found.start 0) 9) ≡ true = (elim c.if-family-2.branch [ then-family-2+else-s-start-ne9 w ↦ simp (w.0.taken, w.2.left) | else-family-2 w ↦ rw w.left ]) in
+    let family : (not a.family || eqb (get_or a.s.now c.in-Found.start 0) 9) ≡ true = (elim c.if-family-2.branch [ then-family-2+else-s-start-ne9 w ↦ simp (w.if-family-2.true, w.if-s-start-ne9.false) | else-family-2 w ↦ rw w.if-family-2.false ]) in
     simp (sized c.before.before, family)
 
 pub returns-in-Refused : goal.returns-in-Refused

@@ -11,7 +11,7 @@ use Rattle.component.proofs.reading.parameter_behind.Reads as reads
 use Rattle.component.proofs.reading.parameter_behind.Tie as tie
 
 -- the field that was read stands in what is left
-read_inside : (c : lts.Past-After-known_told tie.the-claims reads.Pre reads.Post) → let a = c.args in let v = c.value-1.given.0 in (1 ≤ v.1.0) × (a.from + v.1.0 ≤ a.end) × (v.0 < 65536)
+read_inside : (c : lts.Past-After-known_told tie.the-claims reads.Pre reads.Post) → let a = c.args in let size = c.in-Is.size in (1 ≤ size) × (a.from + size ≤ a.end) × (c.in-Is.value < 65536)
 read_inside c = length_inside _ (λ i. (c.shared_slice_known-1.given i).fits) _ (omega arith) (sym c.read_length.ensures ∙ c.in-Is.is)
 
 pub parameter_within-requires : goal.parameter_within-requires
