@@ -1,5 +1,5 @@
-# What ./test, ./bench and harness/listing.sh share. The library is for x86-64, as the kit is: gcc compiles what is linked
-# with it.
+# What ./test, ./bench and harness/listing.sh share. The library is for x86-64, as the kit is: gcc compiles what is
+# linked with it.
 
 say() { printf '%s\n' "$*"; }
 die() { printf '%s\n' "$*" >&2; exit 1; }
@@ -16,6 +16,9 @@ find_tools() {
 # The static library, proved, in build/.
 build_library() {
     mkdir -p build
-    (cd crates/roadquill && rt lib) >build/library.log 2>&1 || { cat build/library.log; die 'the library was not built'; }
+    (cd crates/roadquill && rt lib) >build/library.log 2>&1 || {
+        cat build/library.log
+        die 'the library was not built'
+    }
     cp crates/roadquill/out/libroadquill.a build/
 }
