@@ -41,16 +41,16 @@ unfound g (Unfound.unheld u) = unheld u
 left_over : {head s : Octets} {at n d : ℕ} → LeftOver component head at s n d → Listed at s n d
 left_over (left {e = e} a rest w) = omega (arith, length-append e (a ∷ rest))
 
-in_set_lem : {room at n d : ℕ} {s : Octets} → InSet room at s n d → Listed at s n d
-in_set_lem InSet.one_too_many = omega arith
-in_set_lem (InSet.no_identifier h) = omega arith
-in_set_lem (InSet.unheld i u) = unheld u
-in_set_lem (InSet.later {e = e} {rest = rest} i w f) = omega (arith, length-append e rest, in_set_lem f)
+in_set : {room at n d : ℕ} {s : Octets} → InSet room at s n d → Listed at s n d
+in_set InSet.one_too_many = omega arith
+in_set (InSet.no_identifier h) = omega arith
+in_set (InSet.unheld i u) = unheld u
+in_set (InSet.later {e = e} {rest = rest} i w f) = omega (arith, length-append e rest, in_set f)
 
 no_set : {at n d : ℕ} {s : Octets} → NoSet at s n d → Listed at s n d
 no_set (NoSet.unfound f) = unfound (omega arith) f
 no_set (NoSet.left_over f) = left_over f
-no_set (NoSet.inside {field = field} {set = set} l f) = omega (arith, length-append field set, in_set_lem f)
+no_set (NoSet.inside {field = field} {set = set} l f) = omega (arith, length-append field set, in_set f)
 
 -- what refuses a code
 abbrev Refusable : Coding → Type 0

@@ -50,10 +50,10 @@ abbrev pub below : Octets → Bool
 below [] = true
 below (x ∷ s) = ltb x 256 && below s
 
-pub are_octets_lem : (s : Octets) → below s ≡ true → AreOctets s
-are_octets_lem [] e i = omega arith
-are_octets_lem (x ∷ s) e zero = ltb-true x 256 (each (ltb x 256) (below s) e).0
-are_octets_lem (x ∷ s) e (suc i) = are_octets_lem s (each (ltb x 256) (below s) e).1 i
+pub are_octets : (s : Octets) → below s ≡ true → AreOctets s
+are_octets [] e i = omega arith
+are_octets (x ∷ s) e zero = ltb-true x 256 (each (ltb x 256) (below s) e).0
+are_octets (x ∷ s) e (suc i) = are_octets s (each (ltb x 256) (below s) e).1 i
 
 -- what ours says of a chart, and what it leaves
 abbrev at : ℕ → List Read → Read
@@ -88,10 +88,10 @@ abbrev reject : Octets
 reject = 0xEC ∷ 0x0A ∷ 0xCF ∷ 0x00 ∷ 0xD5 ∷ 0x02 ∷ 0x02 ∷ 0x03 ∷ 0xF2 ∷ 0x02 ∷ 0x89 ∷ 0x00 ∷ []
 
 chart_octets : AreOctets chart
-chart_octets = are_octets_lem chart refl
+chart_octets = are_octets chart refl
 
 two_octets : AreOctets two
-two_octets = are_octets_lem two refl
+two_octets = are_octets two refl
 
 abbrev order : Order
 order = record { kind = 0xEA; id = record { count = 1; first = 5; second = 0 }; code = record { first = 4; second = 0 }; count = 1; table = 5 ∷ 0 ∷ 0 ∷ 0 ∷ 0 ∷ []; source = [] }
@@ -127,7 +127,7 @@ module _ (r : Reader) (w : Writer) (d : Demands r w) where
   Reads i = r (charted i).octets (charted i).specifier zeros ≡ (charted i).read
 
   as_charted : (i : ℕ) → below (charted i).octets ≡ true → reads (charted i) ≡ (charted i).read → Reads i
-  as_charted i o e = ours_is (charted i).octets (charted i).specifier zeros (are_octets_lem (charted i).octets o) ∙ e
+  as_charted i o e = ours_is (charted i).octets (charted i).specifier zeros (are_octets (charted i).octets o) ∙ e
 
   pub not_always_refusing : ((s : Octets) (given : ℕ) (t : List ℕ) → (n : ℕ) × (e : ℕ) × ((r s given t).answer ≡ refused n e)) → ⊥
   not_always_refusing h =
@@ -148,7 +148,7 @@ module _ (r : Reader) (w : Writer) (d : Demands r w) where
       let p = h chart 4 zeros in
       let q = ap (λ x. x.answer) (ours_is chart 4 zeros chart_octets ∙ shown) in
       let u = h [] 0 zeros in
-      let v = ap (λ x. x.answer) (ours_is [] 0 zeros (are_octets_lem [] refl) ∙ shown_empty) in
+      let v = ap (λ x. x.answer) (ours_is [] 0 zeros (are_octets [] refl) ∙ shown_empty) in
       let z : ◌≡◌ {A = ℕ} 0 1 = cc in
       omega arith
 
@@ -227,7 +227,7 @@ module _ (r : Reader) (w : Writer) (d : Demands r w) where
 
   pub problems_in_order : {x : Told} → (r reject 13 zeros).answer ≡ accepted x → x.code ≡ record { first = 2; second = 3 }
   problems_in_order e =
-      let p = ap (λ x. x.answer) (ours_is reject 13 zeros (are_octets_lem reject refl) ∙ ap (at 40) rows_live) in
+      let p = ap (λ x. x.answer) (ours_is reject 13 zeros (are_octets reject refl) ∙ ap (at 40) rows_live) in
       ap (λ x. x.code) (same (sym e ∙ p))
     where
       same : {x y : Told} → ◌≡◌ {A = Answer Told} (accepted x) (accepted y) → x ≡ y

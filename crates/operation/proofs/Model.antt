@@ -18,7 +18,7 @@ use Rattle.component.specs.Table.{width, table_size, held, held_from, parameters
 use Rattle.component.specs.declared.Code as E
 use Rattle.component.specs.Types.{Typed, format_of}
 use Rattle.element.specs.Output.{written, output_after}
-use Rattle.component.proofs.Ends.{Ends, gives, given as Ends·given, stopped, then, at_most}
+use Rattle.component.proofs.Ends.{Ends, gives, given as ends_given, stopped, then, at_most}
 use Rattle.component.proofs.Asking.{answered}
 use Rattle.component.proofs.Taken.{taken, refused_in}
 use Rattle.component.proofs.Making.{makes}
@@ -82,7 +82,7 @@ module _ (s : Octets) (o : AreOctets s) where
     accepts_rightly e = let (x, f, _) = taken (reading s given (length t)) e in given_right f
       where
         given_right : {x : Shown} → reading s given (length t) ≡ accepted x → Rightly x
-        given_right f = Ends·given reader_ends f
+        given_right f = ends_given reader_ends f
 
     -- what is told of a component laid out
     told_right : {x : Told} {c : Component} {row : Row} → (reader s given t).answer ≡ accepted x → Right s given t c row → tells given c row ≡ x

@@ -16,6 +16,6 @@ in_row = elim [ ]
 pub in_writing : {o : Order} {out : Octets} {d : ℕ} → WriterRefuses o out 18 d → ⊥
 in_writing (WriterRefuses.misfit r e f) = in_row f
 
-pub no_eighteen_lem : NoEighteen
+pub no_eighteen : NoEighteen
 unfolding NoEighteen
-no_eighteen_lem r w d = (λ s given t e o p. omega (arith, refusal_small (d.first.reader s given t o p).0), λ o out e p. in_writing (d.first.writer o out p).0)
+no_eighteen r w d = (λ s given t e o p. omega (arith, refusal_small (d.first.reader s given t o p).0), λ o out e p. in_writing (d.first.writer o out p).0)

@@ -115,11 +115,11 @@ module _ (o : Order) where
     unfolding entries_of
     held e = rw (known h.allowed.0, fits h.allowed, le-leb _ _ h.few, le-leb _ _ h.table, e)
 
-  all_stand_lem : ((i : ℕ) → i < o.count → Stands o i) → entries_from 0 o.count o.table o.source ≡ accepted (ordered o)
-  all_stand_lem h = entries_all o 0 o.count (λ j k _. h j (omega arith))
+  all_stand : ((i : ℕ) → i < o.count → Stands o i) → entries_from 0 o.count o.table o.source ≡ accepted (ordered o)
+  all_stand h = entries_all o 0 o.count (λ j k _. h j (omega arith))
 
   pub ready : Ready o → entries ≡ accepted (ordered o)
-  ready r = held r.held (all_stand_lem r.stand) ∙ rw (le-leb _ _ r.short)
+  ready r = held r.held (all_stand r.stand) ∙ rw (le-leb _ _ r.short)
 
   pub writer_refuses : (out : Octets) {n d : ℕ} → WriterRefuses o out n d → written_as o (length out) ≡ refused n d
   unfolding writing entries_of octets_of
@@ -128,7 +128,7 @@ module _ (o : Order) where
   writer_refuses out (WriterRefuses.too_many h k) = rw (known h.0, fits h, lt-leb _ _ k)
   writer_refuses out (WriterRefuses.no_table h k l) = rw (known h.0, fits h, le-leb _ _ k, lt-leb _ _ l)
   writer_refuses out (WriterRefuses.no_entry h k s b) = rw (held h (entries_first o 0 o.count (omega arith) (omega arith) s b))
-  writer_refuses out (WriterRefuses.too_long h s k) = rw (held h (all_stand_lem s), lt-leb _ _ k)
+  writer_refuses out (WriterRefuses.too_long h s k) = rw (held h (all_stand s), lt-leb _ _ k)
   writer_refuses out (WriterRefuses.no_row r e) = rw (ready r, no_row_found _ _ e)
   writer_refuses out (WriterRefuses.misfit r e f) = rw (ready r, its_row _ _ _ e, row_refuses f)
   writer_refuses out (WriterRefuses.no_room r e f k) = rw (ready r, its_row _ _ _ e, (exact _ _).1 f, lt-leb _ _ k)

@@ -99,15 +99,15 @@ module _ (s : Octets) (short : length s ≤ 4096) where
   read_all (Sequence.more {o = o} {rest} w q) {specifiers = specifiers} r (more e p) =
       rw (one_read rest w r (specifiers % 256), e, read_all q (behind s o r) p)
 
-  pub one_refused_lem : {os : List Octets} {t : Octets} → Sequence os t → {at specifiers n d : ℕ} → Rest s at t → OneRefused at os specifiers n d →
+  pub one_refused : {os : List Octets} {t : Octets} → Sequence os t → {at specifiers n d : ℕ} → Rest s at t → OneRefused at os specifiers n d →
       read_each s (spans_from at os) specifiers ≡ refused n d
   unfolding read_each spans_from told
-  one_refused_lem Sequence.none r u = elim u [ ]
-  one_refused_lem (Sequence.more {o = o} {rest} w q) {specifiers = specifiers} r (OneRefused.here e) =
+  one_refused Sequence.none r u = elim u [ ]
+  one_refused (Sequence.more {o = o} {rest} w q) {specifiers = specifiers} r (OneRefused.here e) =
       rw (one_read rest w r (specifiers % 256), refused_in (lone o (specifiers % 256)) told_of e)
-  one_refused_lem (Sequence.more {o = o} {rest} w q) {specifiers = specifiers} r (OneRefused.later e k) =
+  one_refused (Sequence.more {o = o} {rest} w q) {specifiers = specifiers} r (OneRefused.later e k) =
       let (y, f, _) = taken (lone o (specifiers % 256)) e in
-      rw (one_read rest w r (specifiers % 256), f, one_refused_lem q (behind s o r) k)
+      rw (one_read rest w r (specifiers % 256), f, one_refused q (behind s o r) k)
 
 -- ---- one of the two holds of all
 pub accepted_or_not : (at : ℕ) (os : List Octets) (specifiers : ℕ) →

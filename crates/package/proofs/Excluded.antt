@@ -5,7 +5,7 @@ use mathlib.Core.Path.{◌≡◌, refl, ap, ◌∙◌}
 use mathlib.Core.Bool.{true}
 use mathlib.Core.List.{List, [], ◌∷◌}
 use Rattle.element.specs.Answer.{refused}
-use Rattle.operation.proofs.Excluded.{below, are_octets_lem}
+use Rattle.operation.proofs.Excluded.{below, are_octets}
 use Rattle.package.specs.Caller.{Read, read, Reader, Writer}
 use Rattle.package.specs.Demands.{Demands}
 use Rattle.package.specs.Model.{OnlyOne}
@@ -31,7 +31,7 @@ module _ (r : Reader) (w : Writer) (d : Demands r w) where
 
   as_charted : (i : ℕ) → below (chart i).octets ≡ true → reads (chart i) ≡ (chart i).read → Reads i
   unfolding OnlyOne
-  as_charted i o e = (only_one r w d).0 (chart i).octets (chart i).specifiers zeros (are_octets_lem (chart i).octets o) ∙ e
+  as_charted i o e = (only_one r w d).0 (chart i).octets (chart i).specifiers zeros (are_octets (chart i).octets o) ∙ e
 
   -- a dialogue portion is not skipped
   pub dialogue_refused : Reads 6

@@ -20,6 +20,6 @@ unwritten (OneUnwritten.later e f) = unwritten f
 in_writing : {o : Order} {out : Octets} {d : ℕ} → WriterRefuses o out 18 d → ⊥
 in_writing (WriterRefuses.refused_inside r f) = unwritten f
 
-pub no_eighteen_lem : NoEighteen
+pub no_eighteen : NoEighteen
 unfolding NoEighteen
-no_eighteen_lem r w d = (λ s specifiers t e a p. omega (arith, refusal_fits s specifiers t a (d.first.reader s specifiers t a p).0), λ o out e p. in_writing (d.first.writer o out p).0)
+no_eighteen r w d = (λ s specifiers t e a p. omega (arith, refusal_fits s specifiers t a (d.first.reader s specifiers t a p).0), λ o out e p. in_writing (d.first.writer o out p).0)

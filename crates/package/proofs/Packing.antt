@@ -44,14 +44,14 @@ use Rattle.package.proofs.Reader.{reader_accepts, refuses_rightly, accepts_right
 left_over : {head s : Octets} {at n d : ℕ} → LeftOver layout head at s n d → d ≤ at + length s
 left_over (left {e = e} a rest w) = omega (arith, length-append e (a ∷ rest))
 
-in_sequence_lem : {at n d : ℕ} {s : Octets} → InSequence at s n d → d ≤ at + length s
-in_sequence_lem (InSequence.unheld u) = let (_, _, f) = renumbered u in omega (arith, unheld f)
-in_sequence_lem (InSequence.later {o = o} {rest = rest} w f) = omega (arith, length-append o rest, in_sequence_lem f)
+in_sequence : {at n d : ℕ} {s : Octets} → InSequence at s n d → d ≤ at + length s
+in_sequence (InSequence.unheld u) = let (_, _, f) = renumbered u in omega (arith, unheld f)
+in_sequence (InSequence.later {o = o} {rest = rest} w f) = omega (arith, length-append o rest, in_sequence f)
 
 no_sequence : {at n d : ℕ} {s : Octets} → NoSequence at s n d → d ≤ at + length s
 no_sequence (NoSequence.unfound u) = let (_, _, f) = renumbered_too u in omega (arith, unfound (omega arith) f)
 no_sequence (NoSequence.left_over f) = left_over f
-no_sequence (NoSequence.inside {field = field} {contents = contents} l f) = omega (arith, length-append field contents, in_sequence_lem f)
+no_sequence (NoSequence.inside {field = field} {contents = contents} l f) = omega (arith, length-append field contents, in_sequence f)
 
 no_ids : {kind at n d : ℕ} {s : Octets} → NoIds kind at s n d → d ≤ at + length s
 no_ids (NoIds.unfound u) = let (_, _, f) = renumbered_too u in omega (arith, unfound (omega arith) f)

@@ -22,7 +22,7 @@ use Rattle.package.proofs.Standing.{components_stand, ids_again}
 use Rattle.package.proofs.Reader.{reader_accepts}
 use Rattle.package.proofs.Ordered.{left_in_front}
 use Rattle.package.proofs.Writer.{writer_accepts, writes_accepting}
-use Rattle.package.proofs.Returned.{all_returned, in_sequence_lem, all_accepted_lem, as_many_octets, carried_again, parts_again}
+use Rattle.package.proofs.Returned.{all_returned, in_sequence, all_accepted, as_many_octets, carried_again, parts_again}
 
 -- ---- the octets of a package
 octets_inside : (head body : Octets) → AreOctets (element head body) → AreOctets body
@@ -67,12 +67,12 @@ module _ (o : Order) (out : Octets) {os : List Octets} (w : Writable o out os) (
       let c = w.composed in
       let ready = c.ready in
       let (xs, r) = all_returned c.written (components_octets o.kind o.ids os b) in
-      let h = packaged o.kind o.ids os ready.typed.kind ready.typed.ids (in_sequence_lem r) w.short in
+      let h = packaged o.kind o.ids os ready.typed.kind ready.typed.ids (in_sequence r) w.short in
       let n = as_many_octets r in
       let p = reader_accepts s o.specifiers t (record {
         laid_out = record { enough = enough; within = w.short; packaged = h };
         few = rw n ready.few;
-        accepted = all_accepted_lem r;
+        accepted = all_accepted r;
         carried = carried_again o.kind r c.carried;
       }) in
       record {

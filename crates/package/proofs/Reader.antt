@@ -24,7 +24,7 @@ use Rattle.package.proofs.Steps.{is_few, not_few}
 use Rattle.package.proofs.Standing.{spans_from, as_many, first_kind, opening_found, components_stand, all_found, ids_size}
 use Rattle.package.proofs.Refused.{some, unpackaged_refused}
 use Rattle.package.proofs.Deciding.{decide}
-use Rattle.package.proofs.Components.{placing, told_so, left_so, all_carried, one_uncarried, read_all, one_refused_lem, accepted_or_not, carried_or_not}
+use Rattle.package.proofs.Components.{placing, told_so, left_so, all_carried, one_uncarried, read_all, one_refused, accepted_or_not, carried_or_not}
 
 -- what two steps refuse, they refuse whatever stands behind them
 goes_no_further : {A B C : Type 0} (a : Answer A) (f : A → Answer B) (k : A → B → Answer C) {n d : ℕ} → (a >>= f) ≡ refused n d →
@@ -68,7 +68,7 @@ module _ (s : Octets) (specifiers : ℕ) (t : List ℕ) where
       (goes_no_further (opening s) (λ x. all_from s x.first) _ (unpackaged_refused s o f))
   reader_refuses o (ReaderRefuses.miscounted h n) = walked h ∙ rw (not_few n)
   reader_refuses o (ReaderRefuses.refused_inside h k f) =
-      walked h ∙ rw (is_few k, one_refused_lem s h.within h.packaged.components (components_stand h.packaged) f)
+      walked h ∙ rw (is_few k, one_refused s h.within h.packaged.components (components_stand h.packaged) f)
   reader_refuses o (ReaderRefuses.carriage {p} h k a f) =
       let g = h.packaged in
       let (ys, q) = placing (first_place g) a in

@@ -19,14 +19,14 @@ use Rattle.package.specs.Layout.{Opening, sequence_at, ids_at, opening, componen
 use Rattle.package.proofs.Steps.{known, unknown, renumbered, renumbered_too, contents_faulty, wanted_faulty}
 
 -- ---- the one number
-in_sequence_lem : {at n d : ℕ} {t : Octets} → InSequence at t n d → n ≡ 22
-in_sequence_lem (InSequence.unheld f) = (renumbered f).0
-in_sequence_lem (InSequence.later w f) = in_sequence_lem f
+in_sequence : {at n d : ℕ} {t : Octets} → InSequence at t n d → n ≡ 22
+in_sequence (InSequence.unheld f) = (renumbered f).0
+in_sequence (InSequence.later w f) = in_sequence f
 
 no_sequence : {at n d : ℕ} {t : Octets} → NoSequence at t n d → n ≡ 22
 no_sequence (NoSequence.unfound f) = (renumbered_too f).0
 no_sequence (NoSequence.left_over (left a rest w)) = refl
-no_sequence (NoSequence.inside l f) = in_sequence_lem f
+no_sequence (NoSequence.inside l f) = in_sequence f
 
 no_ids : {kind at n d : ℕ} {t : Octets} → NoIds kind at t n d → n ≡ 22
 no_ids (NoIds.unfound f) = (renumbered_too f).0

@@ -128,14 +128,14 @@ module _ {source : Octets} where
       let (xs, rs) = all_returned k (behind b o (flatten os) refl) in
       (x ∷ xs, more r rs)
 
-  pub in_sequence_lem : {cs : List Part} {specifiers : ℕ} {table : List ℕ} {os : List Octets} {xs : List O.Told} → AllReturned source cs specifiers table os xs → Sequence os (flatten os)
+  pub in_sequence : {cs : List Part} {specifiers : ℕ} {table : List ℕ} {os : List Octets} {xs : List O.Told} → AllReturned source cs specifiers table os xs → Sequence os (flatten os)
   unfolding flatten
-  in_sequence_lem none = Sequence.none
-  in_sequence_lem (more r k) = Sequence.more r.laid_out.laid.whole (in_sequence_lem k)
+  in_sequence none = Sequence.none
+  in_sequence (more r k) = Sequence.more r.laid_out.laid.whole (in_sequence k)
 
-  pub all_accepted_lem : {cs : List Part} {specifiers : ℕ} {table : List ℕ} {os : List Octets} {xs : List O.Told} → AllReturned source cs specifiers table os xs → AllAccepted os specifiers xs
-  all_accepted_lem none = AllAccepted.none
-  all_accepted_lem (more r k) = AllAccepted.more r.accepts (all_accepted_lem k)
+  pub all_accepted : {cs : List Part} {specifiers : ℕ} {table : List ℕ} {os : List Octets} {xs : List O.Told} → AllReturned source cs specifiers table os xs → AllAccepted os specifiers xs
+  all_accepted none = AllAccepted.none
+  all_accepted (more r k) = AllAccepted.more r.accepts (all_accepted k)
 
   pub as_many_octets : {cs : List Part} {specifiers : ℕ} {table : List ℕ} {os : List Octets} {xs : List O.Told} → AllReturned source cs specifiers table os xs → length os ≡ length cs
   as_many_octets none = refl

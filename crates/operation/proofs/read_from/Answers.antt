@@ -34,14 +34,14 @@ read c = c.args.octets.now
 abbrev head : lts.Past-After-known_told tie.the-claims reads.Pre reads.Post → Head
 head c = head_said c.in-Found.heading
 
-are_octets_lem : (c : lts.Past-After-known_told tie.the-claims reads.Pre reads.Post) → AreOctets (read c)
-are_octets_lem c i = (c.shared_slice_known-1.given i).fits
+are_octets : (c : lts.Past-After-known_told tie.the-claims reads.Pre reads.Post) → AreOctets (read c)
+are_octets c i = (c.shared_slice_known-1.given i).fits
 
 found : (c : lts.Past-After-known_told tie.the-claims reads.Pre reads.Post) → accepted (head c) ≡ head_at (read c) c.args.from
 found c = sym (ap head_in c.in-Found.is) ∙ c.head_from.ensures
 
 bounded : (c : lts.Past-After-known_told tie.the-claims reads.Pre reads.Post) → Bounded (read c) (head c)
-bounded c = bounds (read c) (are_octets_lem c) c.args.from (sym (found c))
+bounded c = bounds (read c) (are_octets c) c.args.from (sym (found c))
 
 -- ---- where the walk came to the end
 abbrev behind : lts.Past-After-known_told2 tie.the-claims reads.Pre reads.Post → lts.Past-After-known_told tie.the-claims reads.Pre reads.Post
@@ -56,7 +56,7 @@ walked c = rw c.in-Of.is at c.parameters_from.ensures
 few : (c : lts.Past-After-known_told2 tie.the-claims reads.Pre reads.Post) → c.in-Of.count ≤ 64
 few c =
     let a = c.args in
-    reader.few a.octets.now a.from a.specifier a.table.now (are_octets_lem (behind c)) c.if-table-lt-TABLE.false (found (behind c)) (replicate table_size 1) (walked c)
+    reader.few a.octets.now a.from a.specifier a.table.now (are_octets (behind c)) c.if-table-lt-TABLE.false (found (behind c)) (replicate table_size 1) (walked c)
 
 operation : (c : lts.Joined2 tie.the-claims reads.Pre reads.Post) → let p = behind c.before in c.if-kind.operation ≡ operation_in (read p) (head p) p.args.specifier
 unfolding operation_in operation_of
@@ -71,7 +71,7 @@ reached : (c : lts.After-judge_sheet tie.the-claims reads.Pre reads.Post) → le
 reached c =
     let p = c.before.before.before in
     let a = p.args in
-    reader.reached a.octets.now a.from a.specifier a.table.now (are_octets_lem (behind p)) p.if-table-lt-TABLE.false (found (behind p)) (replicate table_size 1) (walked p) c.judge_sheet-judged.result (rw (← operation c.before.before) c.judge_sheet-judged.ensures)
+    reader.reached a.octets.now a.from a.specifier a.table.now (are_octets (behind p)) p.if-table-lt-TABLE.false (found (behind p)) (replicate table_size 1) (walked p) c.judge_sheet-judged.result (rw (← operation c.before.before) c.judge_sheet-judged.ensures)
 
 pub returns-then-table-lt-TABLE : goal.returns-then-table-lt-TABLE
 returns-then-table-lt-TABLE c = reader.too_short _ _ _ _ c.if-table-lt-TABLE.true
@@ -100,7 +100,7 @@ pub returns-in-Refused-parameters_from : goal.returns-in-Refused-parameters_from
 returns-in-Refused-parameters_from c =
     let p = c.before.before.before.before.before in
     let a = p.args in
-    reader.stopped a.octets.now a.from a.specifier a.table.now (are_octets_lem p) p.if-table-lt-TABLE.false (found p) (rw c.in-Refused-parameters_from.is at c.parameters_from.ensures)
+    reader.stopped a.octets.now a.from a.specifier a.table.now (are_octets p) p.if-table-lt-TABLE.false (found p) (rw c.in-Refused-parameters_from.is at c.parameters_from.ensures)
 
 pub returns-in-Refused : goal.returns-in-Refused
 returns-in-Refused c =
