@@ -1,9 +1,9 @@
 /*
  * Roadquill: a proved reader and writer of one ANSI-41 component, INVOKE
  * (LAST), RETURN RESULT (LAST), RETURN ERROR or REJECT, and of whole packages
- * of one to eight components. The library is target/staticlib/libroadquill.a,
- * for x86-64; it calls memcpy and memset, allocates nothing and keeps nothing
- * between two calls.
+ * of one to eight components. The library, for x86-64-v2, is
+ * crates/roadquill/out/libroadquill.a; it calls memcpy and memset, allocates
+ * nothing and keeps nothing between two calls.
  *
  * Octets are those of a component or a package; numbers are the 16-bit numbers
  * of a table; summaries are 64-bit numbers, one for each component of a
