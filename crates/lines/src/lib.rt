@@ -31,7 +31,7 @@ pub enum Line {
 }
 
 // What is kept between two fields.
-#[derive(Drop)]
+#[derive(Clone, Copy)]
 pub struct Kept {
     // For the items behind it.
     pub specifier: u8,

@@ -48,6 +48,7 @@ module _ (ks : List ℕ) where
   none_missing (may j ∷ ls) e = more (λ u. u) (none_missing ls e)
 
   no_first : {ls : Row} {l : Line} → Each (λ l. Unmet ks l → ⊥) ls → First (Unmet ks) ls l → ⊥
+  no_first none f = elim f [ ]
   no_first (more n e) (First.here u) = n u
   no_first (more n e) (First.later m f) = no_first e f
 
@@ -58,6 +59,7 @@ module _ (ks : List ℕ) where
   module _ (i : ℕ) (js : List ℕ) where
     only_it : (ls : Row) → group_last ls ≡ true → First (Unmet ks) ls (any_of i js) → Each (λ l. Unmet ks l → l ≡ any_of i js) ls
     unfolding group_last
+    only_it [] g f = elim f [ ]
     only_it (l ∷ ls) g (First.here h) = more (λ _. refl) (nothing_else (none_missing ls g))
     only_it (must j ∷ ls) g (First.later n f) = more (λ u. absurd (n u)) (only_it ls g f)
     only_it (one_of k j ∷ ls) g (First.later n f) = more (λ u. absurd (n u)) (only_it ls g f)

@@ -25,11 +25,13 @@ all test (x ∷ xs) = test x && all test xs
 
 pub of_all : {A : Type 0} (test : A → Bool) {x : A} {xs : List A} → Memᴰ x xs → all test xs ≡ true → test x ≡ true
 unfolding all
+of_all test {xs = []} m e = elim m [ ]
 of_all test {xs = y ∷ xs} (Memᴰ.head q) e = rw q (each (test y) _ e).0
 of_all test {xs = y ∷ xs} (Memᴰ.tail m) e = of_all test m (each (test y) _ e).1
 
 -- what holds of each holds of a member, and the other way round
 pub of_each : {A : Type 0} (P : A → Type 0) {x : A} {xs : List A} → Each P xs → Memᴰ x xs → P x
+of_each P none m = elim m [ ]
 of_each P (more h e) (Memᴰ.head q) = rw q h
 of_each P (more h e) (Memᴰ.tail m) = of_each P e m
 

@@ -34,6 +34,7 @@ module _ (row : Row) (f : ℕ → ℕ) (ps : List Parameter) where
 -- entries count up to their number
 pub inside : (i : ℕ) (ps : List Parameter) {x : Item} → Memᴰ x (items_of i ps) → x.mark < i + length ps
 unfolding items_of
+inside i [] m = elim m [ ]
 inside i (p ∷ ps) (Memᴰ.head q) = omega (arith, ap (λ x. x.mark) q)
 inside i (p ∷ ps) (Memᴰ.tail m) = omega (arith, inside (i + 1) ps m)
 

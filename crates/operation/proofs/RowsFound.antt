@@ -51,6 +51,7 @@ same_operation p q r = rw (p, q, r)
 not_this : {kind specifier : ℕ} (k p : ℕ) {row : Row} {os : List Operation} → fresh k p os ≡ true → Memᴰ (record { kind = kind; specifier = specifier; row = row }) os →
     (eqb kind k && eqb specifier p) ≡ false
 unfolding fresh
+not_this k p {os = []} e m = elim m [ ]
 not_this {kind} {specifier} k p {os = o ∷ os} e (Memᴰ.head q) =
     let a : kind ≡ o.kind = ap (λ x. x.kind) q in
     let b : specifier ≡ o.specifier = ap (λ x. x.specifier) q in
@@ -78,6 +79,7 @@ module _ (kind specifier : ℕ) (row : Row) where
 
   find_it : (os : List Operation) → distinct os ≡ true → Memᴰ this os → find kind specifier 0 os ≡ accepted row
   unfolding find distinct
+  find_it [] d m = elim m [ ]
   find_it (o ∷ os) d (Memᴰ.head q) =
       let a : kind ≡ o.kind = ap (λ x. x.kind) q in
       let b : specifier ≡ o.specifier = ap (λ x. x.specifier) q in

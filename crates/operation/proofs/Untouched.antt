@@ -4,6 +4,7 @@ use mathlib.Core.Path.{◌≡◌, refl}
 use mathlib.Core.Bool.{Bool, true, false, ◌&&◌, true≢false}
 use mathlib.Core.List.{List, [], ◌∷◌}
 use borrow.Author.Tests.{ne_eqb}
+use Rattle.element.specs.Octets.{if}
 use Rattle.operation.specs.Row.{Row, Line, Item, on_line, named}
 use Rattle.operation.specs.Judge.{occurs, last_mark, once, sized, present, single, judge, count_named}
 use Rattle.operation.proofs.Newcomers.{Grown, done, kept, newcomer}
@@ -38,11 +39,11 @@ narrow done = done
 narrow (kept x g) = kept x (narrow g)
 narrow {l} (newcomer x e g) = newcomer x (or-false (on_line l x.is) _ e).1 (narrow g)
 
-last_same : (m : ℕ) {l : Line} {ls : Row} {xs ys : List Item} → Grown (l ∷ ls) xs ys → last_mark l m ys ≡ last_mark l m xs
+last_same : {l : Line} {ls : Row} (m : ℕ) {xs ys : List Item} → Grown (l ∷ ls) xs ys → last_mark l m ys ≡ last_mark l m xs
 unfolding named last_mark
 last_same m done = refl
-last_same m (kept x g) = last_same _ g
-last_same m {l} (newcomer x e g) = rw (or-false (on_line l x.is) _ e).0 (last_same m g)
+last_same {l} m (kept x g) = last_same (if (on_line l x.is) x.mark m) g
+last_same {l} m (newcomer x e g) = rw (or-false (on_line l x.is) _ e).0 (last_same m g)
 
 lines_same : (row : Row) {xs ys : List Item} → Grown row xs ys → (present row ys ≡ present row xs) × (single row ys ≡ single row xs)
 unfolding named present single

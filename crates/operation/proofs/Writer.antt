@@ -18,8 +18,6 @@ use Rattle.component.proofs.Taken.{taken, passed, stopped}
 use Rattle.component.proofs.Measuring.{ready}
 use Rattle.component.proofs.Entries.{stands}
 use Rattle.component.proofs.Putting.{part_length}
-use denote.Enum.Declared.{tag_of}
-use types.Run.{OneOf}
 use Rattle.operation.specs.declared.Judged as J
 use Rattle.operation.specs.declared.Judged.TheVariants as JV
 use Rattle.operation.specs.Row.{Row}
@@ -28,7 +26,6 @@ use Rattle.operation.specs.Finding.{row_of}
 use Rattle.operation.specs.inner.Coded.{item_at, items_from, judgement, verdict, said, judged_in}
 use Rattle.operation.specs.Items.{items_of}
 use Rattle.operation.specs.Writing.{writing, weighing}
-use Rattle.operation.specs.contracts.Judged
 
 -- the items of a table are those of the parameters that it makes
 same_items : (t : List ℕ) (source : Octets) (i n : ℕ) {ps : List Parameter} → entries_from i n t source ≡ accepted ps → items_from t i n ≡ items_of i ps
@@ -135,9 +132,9 @@ module _ (kind : ℕ) (id : D.Id) (code : E.Code) (count : ℕ) (t : List ℕ) (
     measure_refuses e = unchanged (not_measured kind id code count t source (λ ps. octets_of kind id code ps (length out)) e)
 
     -- what is not the first case of the engine's answer is a refusal
-    pub row_answers : {sizes : Sizes} → accepted sizes ≡ measured kind id count t source → (j : J.Judged) → OneOf (1 ∷ 2 ∷ 3 ∷ 4 ∷ 5 ∷ []) (tag_of Judged.the_type j) →
+    pub row_answers : {sizes : Sizes} → accepted sizes ≡ measured kind id count t source → (j : J.Judged) → ((named : ℕ) → j ≡ JV.Fits named → ⊥) →
         judged_in j ≡ said kind code.first count t → Outcome (judged_in j) out
-    row_answers e (JV.Fits named) k f = absurd (⊎_elim (λ z. omega arith) (⊎_elim (λ z. omega arith) (⊎_elim (λ z. omega arith) (⊎_elim (λ z. omega arith) (λ z. omega arith)))) k)
+    row_answers e (JV.Fits named) k f = absurd (k named refl)
     row_answers e JV.NoRow k f = row_refuses e f
     row_answers e (JV.Again entry) k f = row_refuses e f
     row_answers e (JV.WrongSize entry) k f = row_refuses e f

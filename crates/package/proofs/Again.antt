@@ -79,7 +79,7 @@ module _ (s : Octets) (octets : AreOctets s) where
         again (own ++ others),
         ← beside,
         drop_at (table_with es own) others table_size (table_length es own (omega arith) ∙ size),
-        all_again q (behind s o r) a l (drop table_size t) (omega (arith, length-drop table_size t)),
+        all_again {at = at + length o} q (behind s o r) a l (drop table_size t) (omega (arith, length-drop table_size t)),
       )
 
 -- ---- what else is asked of what is handed on

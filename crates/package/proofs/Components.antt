@@ -78,6 +78,7 @@ module _ (packet : ℕ) where
   pub one_uncarried : {at specifiers d : ℕ} {os : List Octets} {xs : List O.Told} {ys : List Placed} → Placing at os specifiers xs ys →
       OneUncarried packet at os xs specifiers d → carried_in packet ys specifiers ≡ refused 24 d
   unfolding carried_in carries code_of
+  one_uncarried none u = elim u [ ]
   one_uncarried (more e p) (OneUncarried.here n) = rw (ne_eqb _ packet n)
   one_uncarried (more e p) (OneUncarried.later c k) = rw (eq-eqb _ packet c, one_uncarried p k)
 
@@ -101,6 +102,7 @@ module _ (s : Octets) (short : length s ≤ 4096) where
   pub one_refused_lem : {os : List Octets} {t : Octets} → Sequence os t → {at specifiers n d : ℕ} → Rest s at t → OneRefused at os specifiers n d →
       read_each s (spans_from at os) specifiers ≡ refused n d
   unfolding read_each spans_from told
+  one_refused_lem Sequence.none r u = elim u [ ]
   one_refused_lem (Sequence.more {o = o} {rest} w q) {specifiers = specifiers} r (OneRefused.here e) =
       rw (one_read rest w r (specifiers % 256), refused_in (lone o (specifiers % 256)) told_of e)
   one_refused_lem (Sequence.more {o = o} {rest} w q) {specifiers = specifiers} r (OneRefused.later e k) =

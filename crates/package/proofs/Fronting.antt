@@ -58,7 +58,7 @@ pub put_behind : (s out : Octets) (a : ℕ) {after : Octets} → after ≡ put s
 unfolding put
 put_behind s out a e =
     let n = drop_of_length-le out {i = a + (length out - a)} (omega arith) in
-    rw e (simp (part_to_end, drop-drop, n, zero-add, append_assoc) (ap (λ l. take a out ++ l) (append-nil (s ++ drop (a + length s) out))))
+    rw e (simp (part_to_end, drop-drop, n, zero-add, append_assoc) (ap (λ l. take a out ++ (s ++ l)) (append-nil (drop (a + length s) out))))
 
 -- what is put into a part stands in the whole
 pub part : {s out after : Octets} {a n : ℕ} → Put s 0 (behind a out) n after → Put s a out (a + n) (put_mid a (length out - a) out after)

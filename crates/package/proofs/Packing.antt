@@ -74,6 +74,7 @@ module _ (s : Octets) (oct : AreOctets s) where
 
   inside_small : {os : List Octets} {t : Octets} {at specifiers n d : ℕ} → Sequence os t → Rest s at t → OneRefused at os specifiers n d →
       Given n × (d < 65536 + length s)
+  inside_small Sequence.none r u = elim u [ ]
   inside_small {at = at} (Sequence.more {o = o} {rest = rest} w q) r (OneRefused.here {specifiers = specifiers} {n = n} {d = d} e) =
       go (keeps n d) (refusal_small (demand1_ours.reader o (specifiers % 256) (replicate table_size 0) (its_octets o rest r) e).0)
     where

@@ -56,6 +56,8 @@ data Verdict (at on : ℕ) {os us : List Octets} {specifiers : ℕ} (g : AllGrow
 verdict : (at on : ℕ) {os us : List Octets} {specifiers : ℕ} {v w : Octets} → Sequence os v → Sequence us w → (g : AllGrown os us specifiers) →
     AreOctets v → AreOctets w → Verdict at on g
 verdict at on Sequence.none Sequence.none AllGrown.none a b = all AllAccepted.none AllAccepted.none AllJoined.none
+verdict at on Sequence.none (Sequence.more _ r) g a b = elim g [ ]
+verdict at on (Sequence.more _ q) Sequence.none g a b = elim g [ ]
 verdict at on {specifiers = specifiers} (Sequence.more {o = o} {rest} _ q) (Sequence.more {o = u} {rest = left} _ r) (AllGrown.more g gs) a b =
     let (s, l) = says g (octets_before o rest a) (octets_before u left b) in
     go s l (verdict (at + length o) (on + length u) q r gs (behind a o rest refl) (behind b u left refl))
@@ -80,6 +82,7 @@ module _ {older newer : ℕ} (same : newer ≡ older) where
       OneUncarried older at os xs specifiers d →
       (i : ℕ) × (i < length os) × (d ≡ place_of at os i) × OneUncarried newer on us ys specifiers (place_of on us i)
   unfolding place_of
+  uncarried_too at on AllJoined.none u = elim u [ ]
   uncarried_too at on (AllJoined.more s e j) (OneUncarried.here n) = (0, omega arith, refl, OneUncarried.here (λ c. n (c ∙ same)))
   uncarried_too at on (AllJoined.more {o} {u} s e j) (OneUncarried.later c k) =
       let (i, l, q, r) = uncarried_too (at + length o) (on + length u) j k in

@@ -1,0 +1,17 @@
+-- `lines::packages::components_before` meets its contract.
+use Rattle.std.proofs.Common.{◌≡◌, ◌+◌, ◌-◌, ◌*◌, ◌≤◌, length, arith, rules}
+use Rattle.lines.specs.Line.{Front, longest}
+use Rattle.lines.proofs.Parcels.{lines_from, begins, goes_on, ends}
+use Rattle.lines.proofs.packages.components_before.Goals as goal
+
+pub loop-left-init : goal.loop-left-init
+loop-left-init c = (search rules, search rules, search rules, begins _ _ _)
+
+pub loop-left-preserved : goal.loop-left-preserved
+loop-left-preserved c =
+    let before = c.before.before.before in
+    let loop = before.loop-left in
+    (search rules, search rules, omega arith, goes_on _ _ _ loop.invariant.3 (omega arith) (omega arith) before.component_before-start.ensures.0)
+
+pub returns : goal.returns
+returns c = (ends _ _ _ c.loop-left.invariant.3 (omega arith), omega arith)

@@ -1,0 +1,10 @@
+-- `lines::write_row` meets its contract.
+use Rattle.std.proofs.Common.{rules}
+use Rattle.lines.proofs.Putting.{named}
+use Rattle.lines.proofs.Fronts.{alone}
+use Rattle.lines.proofs.write_row.Goals as goal
+
+pub returns : goal.returns
+returns c =
+    let put = c.before.before.before in
+    named _ _ (alone put.row_before-first.ensures.0) put.put.ensures

@@ -1,0 +1,62 @@
+-- `operation::fault` meets its contract. The invariant: 12 is what is left of it. The first entry with an entry's key is searched for: none that was
+-- passed has it, and the entry itself does.
+use Prim.Native.Nat.{◌-◌, ◌≤◌}
+use mathlib.Core.Path.{◌≡◌, sym, ◌∙◌}
+use mathlib.Core.Bool.{false}
+use native.Mathlib.Omega.{arith}
+use borrow.Author.Rules.{rules}
+use Rattle.operation.specs.Row.{Row}
+use Rattle.operation.specs.Judge.{occurs}
+use Rattle.operation.specs.inner.Coded.{Names}
+use Rattle.operation.proofs.Entries.{earlier, one_more, not_yet, none_before, before, passed}
+use Rattle.operation.proofs.Repeats as R
+use Rattle.operation.proofs.engine.fault.Goals as goal
+
+pub parameters-init : goal.parameters-init
+parameters-init c = λ row _. (R.begins row _ _).again
+
+pub loop-first-init : goal.loop-first-init
+loop-first-init c = (search rules, none_before _ _)
+
+pub loop-first-smaller : goal.loop-first-smaller
+loop-first-smaller c = omega (arith, not_yet _ c.key_at.ensures c.key_at-key.ensures c.loop-first-test.true c.loop-first.invariant.0)
+
+pub loop-first-preserved : goal.loop-first-preserved
+loop-first-preserved c =
+    let l = c.loop-first in (
+      omega (arith, not_yet _ c.key_at.ensures c.key_at-key.ensures c.loop-first-test.true l.invariant.0),
+      sym (passed (one_more _ _) c.key_at.ensures c.loop-first-test.true) ∙ l.invariant.1,
+    )
+
+pub parameters-preserved-else-first-at : goal.parameters-preserved-else-first-at
+parameters-preserved-else-first-at c =
+    let l = c.parameters in
+    let h = sym c.has.ensures ∙ c.if-has.true in
+    let e : c.loop-first.first ≡ l.at = omega arith in
+    λ row m. R.not_again row _ _ l.at c.if-count-at.false c.key_at-key.ensures (l.invariant row m) (rw (sym (m _) ∙ h) (R.not_before _ _ (rw e at c.loop-first.invariant.1)))
+
+pub parameters-preserved-else-key : goal.parameters-preserved-else-key
+parameters-preserved-else-key c =
+    let l = c.parameters in
+    let h = sym c.has.ensures ∙ c.if-has.true in
+    λ row m. R.not_again row _ _ l.at c.if-count-at.false c.key_at-key.ensures (l.invariant row m) (rw (sym (m _) ∙ h) (R.digits _ _ c.if-key.false))
+
+pub parameters-preserved : goal.parameters-preserved
+parameters-preserved c =
+    let l = c.parameters in
+    let h = sym c.has.ensures ∙ c.if-has.false in
+    λ row m. R.not_again row _ _ l.at c.if-count-at.false c.key_at-key.ensures (l.invariant row m) (rw (sym (m _) ∙ h))
+
+pub returns-then-count-at : goal.returns-then-count-at
+returns-then-count-at c =
+    let l = c.parameters in
+    record { judged = λ row m. rw (l.invariant row m ∙ R.none_again row _ _ l.at c.if-count-at.true) }
+
+pub returns-then-first-at : goal.returns-then-first-at
+returns-then-first-at c =
+    let l = c.parameters in
+    let h = sym c.has.ensures ∙ c.if-has.true in
+    record {
+      judged = λ row m. rw (R.again row _ _ l.at c.if-count-at.false c.key_at-key.ensures (l.invariant row m) (sym (sym (m _) ∙ h)) (R.not_digits _ c.if-key.true)
+          (before _ _ c.if-first-at.true (sym c.loop-first-test.false ∙ c.key_at.ensures)));
+    }
