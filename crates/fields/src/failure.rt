@@ -3,6 +3,7 @@ ghost use Rattle.std.specs.Prelude.{◌≡◌, OnOk, IfErr};
 ghost use Rattle.std.specs.Process.{exit_status};
 ghost use Rattle.fields.specs.Status.{status_of};
 
+use std::error::Error;
 use std::fmt::InlineText;
 use std::io::Eprint;
 use std::process::ExitCode;
@@ -35,6 +36,8 @@ impl fmt::Display for Failure {
         write!(f, "{what}: {why}")
     }
 }
+
+impl Error for Failure {}
 
 // Says on standard error why a run failed, and answers the status of its program.
 pub fn status<E: Eprint>(rt: &E, ended: Result<(), Failure>) -> ExitCode

@@ -1,7 +1,7 @@
 // The loop that reads and writes: tagged fields are read from a reader, and lines are written to a writer. No contract
-// can say what the system reads or writes, so these functions are proved safe and ending and state no outcome. What a
-// field does to the run is `lines::list_field`, or `lines::list_package`, which state all of it. A read or a write that
-// fails ends the run, and is answered.
+// can say what the system reads or writes, so the loop is proved safe and ending and states no outcome. What a field does
+// to the run is `lines::list_field`, or `lines::list_package`, which state all of it. A read or a write that fails ends
+// the run, and is answered.
 #![tactic(auto)]
 
 mod failure;
@@ -140,14 +140,15 @@ fn take_header<R: Read>(from: &mut R, piece: &mut [u8], left: Left) -> Head {
 
 // ---- output
 
-// Writes all of the octets, or says that it cannot.
+// Writes all of the octets, or says that it cannot, where some of them may be written.
 pub fn write<W: Write>(to: &mut W, octets: &[u8]) -> Result<(), Failure>
     ensures { OnOk result (Appends (W.contents to.old) (W.contents to.new) octets.now) }
 {
     to.write_all(octets).map_err(Failure::Unwritten)
 }
 
-// Ends what was written to: what the writer still holds is written.
+// Ends what was written to: what the writer still holds is written. Standard output holds nothing, and std closes it
+// nowhere, though some file systems say only then that it was not kept: `./roadquill` has it closed.
 pub fn close<W: Write>(to: &mut W) -> Result<(), Failure>
     ensures { Keeps (W.contents to.old) (W.contents to.new) }
 {
@@ -277,8 +278,8 @@ fn step<R: Read, W: Write>(
     }
 }
 
-// Lists the fields of the input. A proved loop has to end, and nothing says that the input does. So the loop has a number
-// of turns that no run uses up. Answers what failed first, where not all was read and written.
+// Lists the fields of the input. A proved loop has to end, and nothing says that the input does. So the loop has a
+// number of turns that no run uses up. Answers what failed first, where not all was read and written.
 fn list_fields<R: Read, W: Write>(
     from: &mut R,
     to: &mut W,
