@@ -44,6 +44,7 @@ pub record Sizes : Type 0 where
   pub body : ℕ
   pub set : ℕ
 
+-- of those parameters
 abbrev pub sizes_of : (kind id : ℕ) → List Parameter → Sizes
 sizes_of kind id ps =
     record { whole = octets_needed kind id ps; body = body_size kind id (set_size ps); set = set_size ps }
@@ -51,7 +52,11 @@ sizes_of kind id ps =
 unfoldable pub measured : (kind : ℕ) (id : D.Id) (count : ℕ) (table : List ℕ) (source : Octets) → Answer Sizes
 measured kind id count table source = do
   ps ← entries_of kind id count table source
-  accepted (sizes_of kind id.count ps)
+  accepted (record {
+    whole = octets_needed kind id.count ps;
+    body = body_size kind id.count (set_size ps);
+    set = set_size ps;
+  })
 
 -- the octets of those parameters, where the output has room for them
 unfoldable pub octets_of : (kind : ℕ) (id : D.Id) (code : E.Code) → List Parameter → (room : ℕ) → Answer Octets

@@ -269,11 +269,14 @@ fn copy_ends(
     copy_block(source, start + last, width, out, at + last)
 }
 
-// Blocks of 32 octets, and the last 32, of which some may be in both.
+// Fewer than 32 octets as two blocks of 16; else blocks of 32, and the last 32, of which some may be in both.
 fn copy_blocks(source: &[u8], start: usize, size: usize, out: &mut [u8], at: usize) -> usize
-    requires { (start + size ≤ length source.now) × (at + size ≤ length out.old) × (32 ≤ size) }
+    requires { (start + size ≤ length source.now) × (at + size ≤ length out.old) × (16 ≤ size) }
     ensures { Put (take size (drop start source.now)) at out.old result out.new }
 {
+    if size < 32 {
+        return copy_ends(source, start, size, out, at, 16);
+    }
     let mut i: usize = 0;
     'blocks: while i + 32 < size {
         copy_block(source, start + i, 32, out, at + i);
@@ -298,9 +301,6 @@ fn copy_octets(source: &[u8], start: usize, size: usize, out: &mut [u8], at: usi
     }
     if size < 16 {
         return copy_ends(source, start, size, out, at, 8);
-    }
-    if size < 32 {
-        return copy_ends(source, start, size, out, at, 16);
     }
     copy_blocks(source, start, size, out, at)
 }
@@ -338,10 +338,10 @@ fn put_code(out: &mut [u8], at: usize, kind: u8, code: Code) -> usize
     if kind == 0xEB {
         return put_few(out, at, 0xD4, 1, first, 0);
     }
-    if kind == 0xEC {
-        return put_few(out, at, 0xD5, 2, first, second);
+    if kind != 0xEC {
+        return at;
     }
-    at
+    put_few(out, at, 0xD5, 2, first, second)
 }
 
 // All that stands before the parameters: the contents of the type's element take `body` octets, and the parameters

@@ -25,7 +25,7 @@ use Rattle.operation.specs.Judge.{judge, count_named}
 use Rattle.operation.specs.Finding.{row_of}
 use Rattle.operation.specs.inner.Coded.{item_at, items_from, judgement, verdict, said, judged_in}
 use Rattle.operation.specs.Items.{items_of}
-use Rattle.operation.specs.Writing.{writing, weighing}
+use Rattle.operation.specs.Writing.{writing}
 
 -- the items of a table are those of the parameters that it makes
 same_items : (t : List ℕ) (source : Octets) (i n : ℕ) {ps : List Parameter} → entries_from i n t source ≡ accepted ps → items_from t i n ≡ items_of i ps
@@ -88,21 +88,28 @@ module _ (kind : ℕ) (id : D.Id) (code : E.Code) (count : ℕ) (t : List ℕ) (
   unfolding measured
   refuses e f = let (ps, g, _) = taken (entries_of kind id count t source) (sym e) in sym (then g ∙ rw (← f))
 
-module _ (kind : ℕ) (id : D.Id) (code : E.Code) (count : ℕ) (t : List ℕ) (source : Octets) where
+-- what is weighed of what was measured
+module _ (kind : ℕ) (id : D.Id) (code : E.Code) (count : ℕ) (t : List ℕ) (source : Octets) {A : Type 0} (say : Sizes → A) where
+  abbrev weight : List Parameter → Answer A
+  weight ps = accepted (say (sizes_of kind id.count ps))
+
   pub weighs : {sizes : Sizes} → accepted sizes ≡ measured kind id count t source → {named : ℕ} → accepted named ≡ said kind code.first count t →
-      accepted sizes ≡ weighing kind id code count t source
-  unfolding measured weighing
-  weighs e f = e ∙ fits kind id code count t source (λ ps. accepted (sizes_of kind id.count ps)) f
+      accepted (say sizes) ≡ after kind id code count t source weight
+  unfolding measured
+  weighs {sizes} e f = go (entries_of kind id count t source) e ∙ fits kind id code count t source weight f
+    where
+      go : (a : Answer (List Parameter)) → accepted sizes ≡ (a >>= λ ps. accepted (sizes_of kind id.count ps)) → accepted (say sizes) ≡ (a >>= weight)
+      go (accepted ps) g = let k : sizes ≡ sizes_of kind id.count ps = cc in rw k refl
+      go (refused n d) g = let z : ◌≡◌ {A = ℕ} 0 1 = cc in absurd (omega arith)
 
   pub weight_refused : {sizes : Sizes} → accepted sizes ≡ measured kind id count t source → {n d : ℕ} → refused n d ≡ said kind code.first count t →
-      refused n d ≡ weighing kind id code count t source
-  unfolding weighing
-  weight_refused e f = refuses kind id code count t source (λ ps. accepted (sizes_of kind id.count ps)) e f
+      refused n d ≡ after kind id code count t source weight
+  weight_refused e f = refuses kind id code count t source weight e f
 
-  pub no_weight : {n d : ℕ} → refused n d ≡ measured kind id count t source → refused n d ≡ weighing kind id code count t source
-  unfolding weighing
-  no_weight e = not_measured kind id code count t source (λ ps. accepted (sizes_of kind id.count ps)) e
+  pub no_weight : {n d : ℕ} → refused n d ≡ measured kind id count t source → refused n d ≡ after kind id code count t source weight
+  no_weight e = not_measured kind id code count t source weight e
 
+module _ (kind : ℕ) (id : D.Id) (code : E.Code) (count : ℕ) (t : List ℕ) (source : Octets) where
   -- what the writer leaves in the output
   module _ (out : Octets) where
     abbrev Outcome : (answer : Answer ℕ) (after : Octets) → Type 0

@@ -13,7 +13,7 @@ ghost use Rattle.element.specs.Octets.{between};
 ghost use Rattle.component.specs.Types.{Typed};
 ghost use Rattle.component.specs.Table.{table_size, held, id_of, code_of};
 ghost use Rattle.component.specs.Layout.{code_octets, operation_place};
-ghost use Rattle.component.specs.Told.{head_said, measure_in};
+ghost use Rattle.component.specs.Told.{count_in, head_said, measure_in};
 ghost use Rattle.operation.specs.inner.Coded.{judged_in, said};
 ghost use Rattle.operation.specs.inner.Finishing.{
   Headed,
@@ -24,7 +24,7 @@ ghost use Rattle.operation.specs.inner.Finishing.{
 ghost use Rattle.operation.specs.Codes.{told_code};
 ghost use Rattle.operation.specs.Caller.{order};
 ghost use Rattle.operation.specs.Reading.{reading_at, table_after};
-ghost use Rattle.operation.specs.Writing.{weighing};
+ghost use Rattle.operation.specs.Writing.{weighing, weighing_sizes};
 ghost use Rattle.operation.specs.Model.{reader, writer};
 ghost use Rattle.operation.specs.Told.{told, answer_in, written_in};
 
@@ -289,8 +289,32 @@ fn row_answer(judged: Judged) -> Writing
 }
 
 // The octets that a component takes: all of the writer's refusals but 17, which needs the output.
-pub fn weigh(kind: u8, id: Id, code: Code, count: usize, table: &[u16], source: &[u8]) -> Measured
-    ensures { measure_in result ≡ weighing kind id code count table.now source.now }
+pub fn weigh(kind: u8, id: Id, code: Code, count: usize, table: &[u16], source: &[u8]) -> Count
+    ensures { count_in result ≡ weighing kind id code count table.now source.now }
+{
+    match component::measure(kind, id, count, table, source) {
+        Measured::Octets {
+            whole,
+            body: _,
+            set: _,
+        } => match row_answer(judge_table(kind, code.first, count, table)) {
+            Writing::Accepted(_) => Count::Of(whole),
+            Writing::Refused { number, detail } => Count::Refused { number, detail },
+        },
+        Measured::Refused { number, detail } => Count::Refused { number, detail },
+    }
+}
+
+// What a component takes, and the same refusals.
+pub fn weigh_sizes(
+    kind: u8,
+    id: Id,
+    code: Code,
+    count: usize,
+    table: &[u16],
+    source: &[u8],
+) -> Measured
+    ensures { measure_in result ≡ weighing_sizes kind id code count table.now source.now }
 {
     match component::measure(kind, id, count, table, source) {
         Measured::Octets { whole, body, set } => {

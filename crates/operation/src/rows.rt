@@ -330,13 +330,11 @@ pub(crate) fn judge_operation(kind: u8, operation: u8, table: &[u16], count: usi
     requires { (width * count ≤ length table.now) × (count ≤ 64) }
     ensures { judged_in result ≡ verdict kind operation (items_from table.now 0 count) }
 {
-    if kind == 0xE9 {
-        return judge_invoke(operation, table, count);
+    match kind {
+        0xE9 => judge_invoke(operation, table, count),
+        0xEA => judge_result(operation, table, count),
+        _ => Judged::Fits(0),
     }
-    if kind == 0xEA {
-        return judge_result(operation, table, count);
-    }
-    Judged::Fits(0)
 }
 
 // The same for a reader, which asks nothing of an ERROR and a REJECT: most of what such a reading cost here was the call.

@@ -28,7 +28,7 @@ use Rattle.component.proofs.Putting.{Left, begins, ends, goes_on}
 use Rattle.component.proofs.Laid.{lays}
 use Rattle.operation.specs.declared.summary.Outline as O
 use Rattle.operation.specs.Model.{written_as}
-use Rattle.operation.specs.Writing.{writing, weighing}
+use Rattle.operation.specs.Writing.{writing, weighing_sizes}
 use Rattle.package.specs.Types.{package_type, id_size}
 use Rattle.package.specs.Caller.{Part, order}
 use Rattle.package.specs.Reading.{few, tables_size}
@@ -41,7 +41,7 @@ use Rattle.package.proofs.Weighing.{weighs, measures, composes, split, at_most}
 -- ---- the steps of `put_components`
 module _ (kind : ℕ) (id : D.Id) (code : E.Code) (count : ℕ) (t : List ℕ) (source : Octets) where
   -- a component that was weighed is put down as it is written
-  as_written : {s : Octets} → writing kind id code count t source 4096 ≡ accepted s → {z : Sizes} → weighing kind id code count t source ≡ accepted z →
+  as_written : {s : Octets} → writing kind id code count t source 4096 ≡ accepted s → {z : Sizes} → weighing_sizes kind id code count t source ≡ accepted z →
       {room : ℕ} → length s ≤ room → Laid-by kind id code count t source z.set room ≡ s
   unfolding written
   as_written {s} e {z} f {room} h =

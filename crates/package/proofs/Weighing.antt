@@ -31,7 +31,7 @@ use Rattle.operation.specs.Judge.{judge}
 use Rattle.operation.specs.Finding.{row_of}
 use Rattle.operation.specs.Items.{items_of}
 use Rattle.operation.specs.Codes.{operation_of}
-use Rattle.operation.specs.Writing.{writing, weighing}
+use Rattle.operation.specs.Writing.{writing, weighing_sizes}
 use Rattle.operation.specs.Model.{written_as}
 use Rattle.operation.proofs.Counts.{written_short}
 use Rattle.package.specs.Caller.{Part}
@@ -76,15 +76,15 @@ module _ (kind : ℕ) (id : D.Id) (code : E.Code) (count : ℕ) (t : List ℕ) (
       (ps, f, i)
 
   -- what is weighed is counted of what is written into 4,096 octets
-  pub weighs : written (writing kind id code count t source 4096) ≡ (weighing kind id code count t source >>= λ z. accepted z.whole)
-  unfolding weighing writing octets_of written
+  pub weighs : written (writing kind id code count t source 4096) ≡ (weighing_sizes kind id code count t source >>= λ z. accepted z.whole)
+  unfolding weighing_sizes writing octets_of written
   weighs =
       simp step_by_step (after (entries_of kind id count t source) λ ps e.
       let r = ready kind id count t source e in
       simp (le-leb (octets_needed kind id.count ps) 4096 r.short, whole kind id code ps r.allowed r.short))
 
-  pub few_octets : {z : Sizes} → accepted z ≡ weighing kind id code count t source → (z.whole ≤ 4096) × (z.set ≤ 4096)
-  unfolding weighing
+  pub few_octets : {z : Sizes} → accepted z ≡ weighing_sizes kind id code count t source → (z.whole ≤ 4096) × (z.set ≤ 4096)
+  unfolding weighing_sizes
   few_octets {z} e =
       let (ps, f, g) = listed (λ ps. accepted (sizes_of kind id.count ps)) (sym e) in
       let s = (ready kind id count t source f).short in
@@ -92,8 +92,8 @@ module _ (kind : ℕ) (id : D.Id) (code : E.Code) (count : ℕ) (t : List ℕ) (
       rw (← k) (s, short_set kind id.count ps s)
 
   -- as it was measured
-  pub measures : {z : Sizes} → weighing kind id code count t source ≡ accepted z → measured kind id count t source ≡ accepted z
-  unfolding weighing measured
+  pub measures : {z : Sizes} → weighing_sizes kind id code count t source ≡ accepted z → measured kind id count t source ≡ accepted z
+  unfolding weighing_sizes measured
   measures e = let (ps, f, g) = listed (λ ps. accepted (sizes_of kind id.count ps)) e in rw f g
 
   -- and composed as well, where there is room
@@ -155,7 +155,7 @@ module _ (sp : ℕ) (t : List ℕ) (source : Octets) (packet i wrong sum : ℕ) 
   step : (xs : List ℕ) → (length xs ≡ 0 → ⊥) → i < 8 → {o : O.Outline} → o ≡ outline_for (part_in (get_or xs 0 0)) (sp % 256) →
       {w : ℕ} → w ≡ if (ltb wrong 8) wrong (if (carries packet o.kind o.code.first (sp % 256)) 8 i) →
       weighed (map part_in xs) sp t source packet i wrong sum ≡
-      ((weighing o.kind o.id o.code o.all t source >>= λ z. accepted z.whole) >>= λ n. weighed (map part_in (behind 1 xs)) (sp / 256) (behind table_size t) source packet (i + 1) w (sum + n))
+      ((weighing_sizes o.kind o.id o.code o.all t source >>= λ z. accepted z.whole) >>= λ n. weighed (map part_in (behind 1 xs)) (sp / 256) (behind table_size t) source packet (i + 1) w (sum + n))
   unfolding code_for weighed written carried_as
   step [] some h e f = absurd (some refl)
   step (x ∷ xs) some h {o} e {w} f =
@@ -170,10 +170,10 @@ module _ (sp : ℕ) (t : List ℕ) (source : Octets) (packet i wrong sum : ℕ) 
       go (refused n d) b = refl
 
   module _ (xs : List ℕ) (some : length xs ≡ 0 → ⊥) (few : i < 8) {o : O.Outline} (told : o ≡ outline_for (part_in (get_or xs 0 0)) (sp % 256)) where
-    pub first_refused : {n d : ℕ} → refused n d ≡ weighing o.kind o.id o.code o.all t source → refused n d ≡ weighed (map part_in xs) sp t source packet i wrong sum
+    pub first_refused : {n d : ℕ} → refused n d ≡ weighing_sizes o.kind o.id o.code o.all t source → refused n d ≡ weighed (map part_in xs) sp t source packet i wrong sum
     first_refused e = sym (step xs some few told refl ∙ rw (← e))
 
-    pub first_weighed : {z : Sizes} {w : ℕ} {a : Answer ℕ} → accepted z ≡ weighing o.kind o.id o.code o.all t source →
+    pub first_weighed : {z : Sizes} {w : ℕ} {a : Answer ℕ} → accepted z ≡ weighing_sizes o.kind o.id o.code o.all t source →
         w ≡ if (ltb wrong 8) wrong (if (carries packet o.kind o.code.first (sp % 256)) 8 i) →
         a ≡ weighed (map part_in (behind 1 xs)) (sp / 256) (behind table_size t) source packet (i + 1) w (sum + z.whole) →
         a ≡ weighed (map part_in xs) sp t source packet i wrong sum
@@ -206,12 +206,12 @@ module _ {xs : List ℕ} {sp : ℕ} {t : List ℕ} {source : Octets} {packet : �
       first : o ≡ outline_for (part_in (get_or (drop i xs) 0 0)) (left % 256)
       first = rw (get_or-drop i xs 0 0, add-zero) told
 
-      pub refuses_all : {n d : ℕ} → refused n d ≡ weighing o.kind o.id o.code o.all (behind (table_size * i) t) source →
+      pub refuses_all : {n d : ℕ} → refused n d ≡ weighing_sizes o.kind o.id o.code o.all (behind (table_size * i) t) source →
           refused n d ≡ weighed (map part_in xs) sp t source packet 0 8 0
       refuses_all e =
           first_refused left (drop (table_size * i) t) source packet i wrong sum (drop i xs) some few first (rw (part_to_end t (table_size * i)) at e) ∙ g.rest
 
-      pub goes_on : {z : Sizes} → accepted z ≡ weighing o.kind o.id o.code o.all (behind (table_size * i) t) source →
+      pub goes_on : {z : Sizes} → accepted z ≡ weighing_sizes o.kind o.id o.code o.all (behind (table_size * i) t) source →
           {w : ℕ} → w ≡ if (ltb wrong 8) wrong (if (carries packet o.kind o.code.first (left % 256)) 8 i) →
           Going xs sp t source packet (i + 1) (left / 256) w (sum + z.whole) (set sets i z.set)
       unfolding left_at

@@ -107,7 +107,7 @@ fn weigh_all(
         let id = outline.id;
         let code = outline.code;
         let from = TABLE * index;
-        match operation::weigh(outline.kind, id, code, outline.all, &table[from..], source) {
+        match operation::weigh_sizes(outline.kind, id, code, outline.all, &table[from..], source) {
             Measured::Octets {
                 whole,
                 body: _,

@@ -9,7 +9,7 @@ use Rattle.component.specs.declared.Count.TheVariants as CV
 use Rattle.component.specs.Table.{table_size}
 use Rattle.component.specs.Composing.{Sizes}
 use Rattle.operation.specs.declared.summary.Outline as O
-use Rattle.operation.specs.Writing.{weighing}
+use Rattle.operation.specs.Writing.{weighing_sizes}
 use Rattle.package.specs.Caller.{Part}
 use Rattle.package.specs.Told.{part_in}
 use Rattle.package.specs.Writing.{code_for, write_each, carried_as, package_octets, laid_down}
@@ -57,7 +57,7 @@ module _ (xs : List ℕ) (specifiers : ℕ) (table : List ℕ) (source : Octets)
   abbrev pub weighing_at : (i : ℕ) → Answer Sizes
   weighing_at i =
       let o = outline_for (part_in (get_or xs i 0)) (left_at i specifiers % 256) in
-      weighing o.kind o.id o.code o.all (drop (table_size * i) table) source
+      weighing_sizes o.kind o.id o.code o.all (drop (table_size * i) table) source
 
   -- the octets of the parameters are noted of each of the first `n`
   abbrev pub Noted : (n : ℕ) (sets : List ℕ) → Type 0

@@ -25,14 +25,14 @@ pub returns-then-kind-eq235 : goal.returns-then-kind-eq235
 unfolding coded_octets written_code code_element format_of
 returns-then-kind-eq235 c = rw c.if-kind-eq235.true c.put_few-then-kind-eq235.ensures
 
-pub put_few-requires-then-kind-eq236 : goal.put_few-requires-then-kind-eq236
+pub put_few-requires-2 : goal.put_few-requires-2
 unfolding coded_octets written_code code_element format_of
-put_few-requires-then-kind-eq236 c = (omega arith, rw c.if-kind-eq236.true at c.requires)
-
-pub returns-then-kind-eq236 : goal.returns-then-kind-eq236
-unfolding coded_octets written_code code_element format_of
-returns-then-kind-eq236 c = rw c.if-kind-eq236.true c.put_few-then-kind-eq236.ensures
+put_few-requires-2 c = (omega arith, rw c.if-kind-ne236.false at c.requires)
 
 pub returns : goal.returns
+unfolding coded_octets written_code code_element format_of
+returns c = rw c.if-kind-ne236.false c.put_few-2.ensures
+
+pub returns-then-kind-ne236 : goal.returns-then-kind-ne236
 unfolding coded_octets code_element
-returns c = rw (result _ c.if-kind-eq233.false c.if-kind-eq235.false c.if-kind-eq236.false, code_element) none
+returns-then-kind-ne236 c = rw (result _ c.if-kind-eq233.false c.if-kind-eq235.false c.if-kind-ne236.true, code_element) none

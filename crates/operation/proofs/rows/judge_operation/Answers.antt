@@ -3,11 +3,11 @@ use borrow.Author.Rules.{rules}
 use Rattle.operation.proofs.Verdicts.{no_kind}
 use Rattle.operation.proofs.rows.judge_operation.Goals as goal
 
-pub returns-then-kind-eq233 : goal.returns-then-kind-eq233
-returns-then-kind-eq233 c = rw c.if-kind-eq233.true c.judge_invoke.ensures
+pub returns-in-233 : goal.returns-in-233
+returns-in-233 c = rw c.in-233.is c.judge_invoke.ensures
 
-pub returns-then-kind-eq234 : goal.returns-then-kind-eq234
-returns-then-kind-eq234 c = rw c.if-kind-eq234.true c.judge_result.ensures
+pub returns-in-234 : goal.returns-in-234
+returns-in-234 c = rw c.in-234.is c.judge_result.ensures
 
-pub returns : goal.returns
-returns c = no_kind _ _ ((tt, c.if-kind-eq233.false), c.if-kind-eq234.false)
+pub returns-in_default : goal.returns-in_default
+returns-in_default c = no_kind _ _ c.in_default.in_default-own.rest

@@ -87,7 +87,7 @@ returns-in-Accepted t c =
     let more = c.if-left-eq0.false in
     let first = leads_on s o a.left more c.requires.0 in
     let k = continues a.packet s o c.requires.1 more c.requires.0.some first a.specifiers a.wrong
-        (c.end_of-end.ensures _ first.found) c.summary_from-summary.ensures.0 c.if-summary-ne0.false c.first_wrong-wrong.ensures in
+    (c.end_of-end.ensures _ first.found) c.summary_from-summary.ensures.0 c.if-summary-ne0.false c.first_wrong-wrong.ensures in
     let (ys, e) = all_done (leftover a.packet s c.end_of-end.result (a.left - 1) (a.specifiers / 256) c.first_wrong-wrong.result) (sym c.read_rest.ensures.0 ∙ ap rest_in c.in-Accepted.is) in
     let y : Placed = record { place = a.at; shown = k.shown } in
     rw (k.is, e) (
@@ -106,7 +106,7 @@ returns-in-Refused t c =
     let more = c.if-left-eq0.false in
     let first = leads_on s o a.left more c.requires.0 in
     let k = continues a.packet s o c.requires.1 more c.requires.0.some first a.specifiers a.wrong
-        (c.end_of-end.ensures _ first.found) c.summary_from-summary.ensures.0 c.if-summary-ne0.false c.first_wrong-wrong.ensures in
+    (c.end_of-end.ensures _ first.found) c.summary_from-summary.ensures.0 c.if-summary-ne0.false c.first_wrong-wrong.ensures in
     let e = not_done (leftover a.packet s c.end_of-end.result (a.left - 1) (a.specifiers / 256) c.first_wrong-wrong.result) (sym c.read_rest.ensures.0 ∙ ap rest_in c.in-Refused.is) in
     rw (k.is, e) (
       refl,

@@ -15,7 +15,7 @@ pub components-init : goal.components-init
 components-init c = (omega arith, omega arith, begun c.requires.2)
 
 few : (c : lts.Past-After-known_told tie.the-claims reads.Pre reads.Post goal.the-invariant-components goal.the-decreases-components) → (c.in-Octets.whole ≤ 4096) × (c.in-Octets.set ≤ 4096)
-few c = few_octets _ _ _ _ _ _ (sym (ap measure_in c.in-Octets.is) ∙ c.weigh.ensures)
+few c = few_octets _ _ _ _ _ _ (sym (ap measure_in c.in-Octets.is) ∙ c.weigh_sizes.ensures)
 
 pub overflow_cast-sets : goal.overflow_cast-sets
 overflow_cast-sets c = omega (arith, few c.before)
@@ -42,7 +42,7 @@ components-preserved c =
       omega (arith, few c.before.before.before, l.invariant),
       goes_on l.invariant.2 some.if-components-index.false (omega (arith, some.if-components-index.false, some.requires))
           weighed.ordered-outline.ensures
-          (sym (ap measure_in c.in-Octets.is) ∙ weighed.weigh.ensures) c.first_wrong-wrong.ensures,
+          (sym (ap measure_in c.in-Octets.is) ∙ weighed.weigh_sizes.ensures) c.first_wrong-wrong.ensures,
     )
 
 pub returns-then-wrong-lt8 : goal.returns-then-wrong-lt8
@@ -56,6 +56,6 @@ returns-in-Refused c =
     let weighed = c.before.before in
     let some = weighed.before.before.before.before.before.before in (
       refuses_all some.components.invariant.2 some.if-components-index.false (omega (arith, some.if-components-index.false, some.requires))
-          weighed.ordered-outline.ensures (sym (ap measure_in c.in-Refused.is) ∙ weighed.weigh.ensures),
+          weighed.ordered-outline.ensures (sym (ap measure_in c.in-Refused.is) ∙ weighed.weigh_sizes.ensures),
       tt,
     )
