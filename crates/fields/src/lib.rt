@@ -332,3 +332,69 @@ pub fn list_packages<R: Read, W: Write>(
 ) -> Result<(), Failure> {
     list_fields(from, to, true, package, table)
 }
+
+#[cfg(test)]
+mod tests {
+    use super::*;
+    use std::test::Fail;
+
+    // An octet at a time, with an interruption before each.
+    #[derive(Drop)]
+    struct Halting<'a> {
+        octets: &'a [u8],
+        interrupted: bool,
+        // What fails behind the last octet, where the input does not end there.
+        behind: Option<io::Error>,
+    }
+
+    impl Read for Halting<'_> {
+        fn read(&mut self, piece: &mut [u8]) -> io::Result<usize> {
+            self.interrupted = !self.interrupted;
+            if self.interrupted {
+                return Err(io::Error::from(ErrorKind::Interrupted));
+            }
+            if piece.is_empty() {
+                return Ok(0);
+            }
+            match self.octets.split_first() {
+                Some((octet, others)) => {
+                    piece[0] = *octet;
+                    self.octets = others;
+                    Ok(1)
+                }
+                None => match self.behind {
+                    Some(error) => Err(error),
+                    None => Ok(0),
+                },
+            }
+        }
+    }
+
+    // A specifier, a component and, but for its last octet, another.
+    const CUT: &[u8] = &[
+        2, 0, 1, 4, 1, 0, 9, 0xEA, 7, 0xCF, 1, 5, 0xF2, 2, 0x85, 0, 1, 0, 2, 0xE9,
+    ];
+
+    #[test]
+    fn a_read_that_fails_is_no_end(rt: HostRuntime) -> Result<(), Fail> {
+        let fails = io::Error::from(ErrorKind::TimedOut);
+        let cases = [
+            (None, true, "1 0 0 1 0\ncut\n"),
+            (Some(fails), false, "1 0 0 1 0\n"),
+        ];
+        for (behind, whole, text) in cases {
+            let mut from = Halting {
+                octets: CUT,
+                interrupted: false,
+                behind,
+            };
+            let mut to = Vec::new(rt.alloc());
+            let mut component = [0u8; 4097];
+            let mut table = [0u16; 320];
+            let ended = list(&mut from, &mut to, &mut component, &mut table);
+            assert_eq!(rt; ended.is_ok(), whole);
+            assert_eq!(rt; to.as_slice(), text.as_bytes());
+        }
+        Ok(())
+    }
+}
