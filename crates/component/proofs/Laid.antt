@@ -13,7 +13,7 @@ use Rattle.element.proofs.LengthLaws as L
 use Rattle.component.specs.declared.Id as D
 use Rattle.component.specs.declared.Code as E
 use Rattle.component.specs.Types.{coding_of}
-use Rattle.component.specs.Composed.{element, set_of, composed}
+use Rattle.component.specs.Composed.{set_of}
 use Rattle.component.specs.Needed.{element_size, coding_size, body_size, octets_needed}
 use Rattle.component.specs.Composing.{Sizes, measured, octets_of, composing}
 use Rattle.component.specs.Table.{width, held_from, id_octets, written_code, parameters_from}

@@ -9,7 +9,7 @@ use lib.Seq.{take-append_seam}
 use lib.Dec.{eqb}
 use native.Mathlib.Omega.{arith}
 use Rattle.element.specs.Octets.{Octets}
-use Rattle.element.specs.Answer.{Answer, accepted, refused, ◌>>=◌, ◌>>◌}
+use Rattle.element.specs.Answer.{Answer, accepted, refused, ◌>>=◌}
 use Rattle.component.specs.Table.{Entry, width, table_with, held}
 use Rattle.component.specs.Layout.{Layout, operation_place}
 use Rattle.component.proofs.Entries.{numbers_length}

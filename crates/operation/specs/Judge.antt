@@ -1,7 +1,7 @@
 -- How a row judges a run of parameters: 12, 26, 13 and 14 in their order.
 use Rattle.std.specs.Prelude.{ℕ, ◌+◌, Bool, true, false, ◌&&◌, ◌||◌, not, List, [], ◌∷◌, eqb}
 use Rattle.element.specs.Octets.{if}
-use Rattle.element.specs.Answer.{Answer, accepted, refused, ◌>>=◌, ◌>>◌, check}
+use Rattle.element.specs.Answer.{Answer, accepted, refused, ◌>>◌, check}
 use Rattle.operation.specs.Row.{
   Line,
   must,

@@ -10,7 +10,7 @@ use Rattle.element.specs.Octets.{Octets}
 use Rattle.component.specs.Grammar.{Parameter}
 use Rattle.component.specs.Onward.{entry_on}
 use Rattle.component.specs.Standing.{Shows, Pairwise}
-use Rattle.component.specs.Table.{Entry, width, table_size, numbers, table_with, held_from, parameter_of, parameters_from}
+use Rattle.component.specs.Table.{Entry, width, table_size, table_with, held_from, parameter_of, parameters_from}
 use Rattle.component.proofs.Entries.{holds, table_length, table_beside, shown_are}
 use Rattle.component.proofs.Refusing.{Rest}
 use Rattle.component.proofs.Shown.{shows_on}

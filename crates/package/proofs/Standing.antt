@@ -11,7 +11,7 @@ use Rattle.element.specs.Answer.{accepted}
 use Rattle.component.specs.Layout.{Span, span}
 use Rattle.component.specs.Part.{fits, part_of}
 use Rattle.component.proofs.Complete.{longer, first_octet}
-use Rattle.component.proofs.Refusing.{Rest, first, behind, moved, again, contents_found, wanted_found, all}
+use Rattle.component.proofs.Refusing.{Rest, behind, moved, again, contents_found, wanted_found, all}
 use Rattle.package.specs.Types.{id_size}
 use Rattle.package.specs.Grammar.{Package, Sequence, none, more, Packaged}
 use Rattle.package.specs.Layout.{Opening, opening, ids_at, sequence_at, components_from, all_from}

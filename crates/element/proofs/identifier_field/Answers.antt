@@ -1,5 +1,4 @@
 -- `element::identifier_field` meets its contract: the identifier by its size.
-use borrow.Author.Rules.{rules}
 use Rattle.element.proofs.Ways.{numbers_1, numbers_2, numbers_3}
 use Rattle.element.proofs.identifier_field.Goals as goal
 

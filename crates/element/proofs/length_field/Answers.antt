@@ -1,5 +1,4 @@
 -- `element::length_field` meets its contract: the field by its size.
-use borrow.Author.Rules.{rules}
 use native.Mathlib.Omega.{arith}
 use Rattle.element.proofs.Ways.{says_1, says_2, says_3}
 use Rattle.element.proofs.length_field.Goals as goal

@@ -1,10 +1,8 @@
 -- `element::read_identifier` meets its contract: each way out is by laws of `Ways`.
-use borrow.Author.Rules.{rules}
 use borrow.Author.Tests.{ltb-true, ltb-false, leb-true, leb-false}
 use native.Mathlib.Omega.{arith}
 use Prim.Native.Nat.{◌/◌, ◌%◌}
 use mathlib.Core.Path.{◌≡◌, refl, ◌∙◌}
-use mathlib.Core.Logic.{⊎_elim}
 use Rattle.element.specs.Decoded.{identifier_at, numbered}
 use Rattle.element.proofs.Ways.{no_octet, other_class, low_bits, all_ones, none_behind, below_31, one_behind, leading_80, cut_behind, two_behind, longer_run}
 use Rattle.element.proofs.read_identifier.Goals as goal

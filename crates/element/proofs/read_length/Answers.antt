@@ -1,5 +1,4 @@
 -- `element::read_length` meets its contract: each way out is one law of `Ways`.
-use borrow.Author.Rules.{rules}
 use native.Mathlib.Omega.{arith}
 use Rattle.element.proofs.Ways.{nothing_left, one_octet, other_form, cut_81, two_octets, cut_82, three_octets}
 use Rattle.element.proofs.read_length.Goals as goal

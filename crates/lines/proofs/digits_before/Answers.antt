@@ -1,6 +1,6 @@
 -- `lines::digits_before` meets its contract.
 use Rattle.std.proofs.Common.{arith, rules}
-use Rattle.lines.proofs.Spelling.{Spelling, begins, goes_on, ends}
+use Rattle.lines.proofs.Spelling.{begins, goes_on, ends}
 use Rattle.lines.proofs.digits_before.Goals as goal
 
 pub loop-rest-init : goal.loop-rest-init

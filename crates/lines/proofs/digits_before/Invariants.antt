@@ -1,6 +1,5 @@
 -- `lines::digits_before` meets its contract.
-use Rattle.std.proofs.Common.{arith, rules}
-use Rattle.lines.proofs.Spelling.{Spelling, begins, goes_on, ends}
+use Rattle.lines.proofs.Spelling.{Spelling}
 use Rattle.lines.proofs.digits_before.Given as goal
 
 abbrev pub invariant-loop-rest : goal.invariant-loop-rest

@@ -1,5 +1,5 @@
 -- `lines::list_field` meets its contract.
-use Rattle.std.proofs.Common.{sym, ap, ◌∙◌, arith, rules}
+use Rattle.std.proofs.Common.{sym, ap, ◌∙◌, arith}
 use Rattle.lines.proofs.Stepping.{line_short, cramped, skipped, item, never}
 use Rattle.lines.specs.Line.{line_of}
 use Rattle.lines.specs.Listing.{components}

@@ -1,5 +1,5 @@
 -- `lines::number_before` meets its contract.
-use Rattle.std.proofs.Common.{◌∙◌, arith, length-set, rules}
+use Rattle.std.proofs.Common.{◌∙◌, arith, length-set}
 use Rattle.lines.specs.Line.{cell}
 use Rattle.lines.proofs.Fronts as fronts
 use Rattle.lines.proofs.number_before.Goals as goal

@@ -1,6 +1,6 @@
 -- `lines::put` meets its contract.
-use Rattle.std.proofs.Common.{◌≡◌, ◌-◌, ◌≤◌, length, arith, length-set, rules}
-use lib.Seq.{paste, paste-zero}
+use Rattle.std.proofs.Common.{◌≡◌, length, arith, length-set, rules}
+use lib.Seq.{paste-zero}
 use Rattle.lines.proofs.Putting.{pasted, fits, spills}
 use Rattle.lines.proofs.put.Goals as goal
 

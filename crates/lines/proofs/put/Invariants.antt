@@ -1,7 +1,6 @@
 -- `lines::put` meets its contract.
-use Rattle.std.proofs.Common.{◌≡◌, ◌-◌, ◌≤◌, length, arith, length-set, rules}
-use lib.Seq.{paste, paste-zero}
-use Rattle.lines.proofs.Putting.{pasted, fits, spills}
+use Rattle.std.proofs.Common.{◌≡◌, ◌-◌, ◌≤◌, length}
+use lib.Seq.{paste}
 use Rattle.lines.proofs.put.Given as goal
 
 abbrev pub invariant-loop-i : goal.invariant-loop-i

@@ -1,5 +1,5 @@
 -- `lines::read_field` meets its contract.
-use Rattle.std.proofs.Common.{rules, le-ltb, lt-ltb}
+use Rattle.std.proofs.Common.{le-ltb, lt-ltb}
 use Rattle.lines.specs.Header.{field_at}
 use Rattle.lines.proofs.read_field.Goals as goal
 

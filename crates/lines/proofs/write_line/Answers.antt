@@ -1,5 +1,4 @@
 -- `lines::write_line` meets its contract.
-use Rattle.std.proofs.Common.{rules}
 use Rattle.lines.specs.Line.{line_of}
 use Rattle.lines.proofs.write_line.Goals as goal
 

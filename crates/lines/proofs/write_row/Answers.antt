@@ -1,5 +1,4 @@
 -- `lines::write_row` meets its contract.
-use Rattle.std.proofs.Common.{rules}
 use Rattle.lines.proofs.Putting.{named}
 use Rattle.lines.proofs.Fronts.{alone}
 use Rattle.lines.proofs.write_row.Goals as goal

@@ -1,9 +1,7 @@
 -- `operation::code_of` meets its contract: what is told of a code, by the type and the first two octets where it stands.
-use borrow.Author.Rules.{rules}
 use Prim.Native.Nat.{ℕ, suc, ◌+◌, ◌<◌}
 use mathlib.Core.Path.{◌≡◌, refl}
 use mathlib.Core.List.{◌∷◌}
-use mathlib.Core.Logic.{⊎_elim}
 use lib.ListN.{length, get_or, take, drop}
 use lib.Seq.{drop-cons}
 use lib.Dec.{eqb}
@@ -21,7 +19,6 @@ use Rattle.operation.proofs.code_of.Goals as goal
 use Rattle.operation.proofs.code_of.Goals.{else-kind, then-kind}
 use Rattle.operation.proofs.code_of.Lts as lts
 use Rattle.operation.proofs.code_of.Reads as reads
-use Rattle.operation.proofs.code_of.Tie as tie
 
 -- of two octets that stand first
 abbrev Tells : (given x y : ℕ) (rest : Octets) (kind : ℕ) → Type 0

@@ -1,5 +1,4 @@
 -- `operation::finish` meets its contract: each case of the engine's answer says its own number.
-use borrow.Author.Rules.{rules}
 use mathlib.Core.Path.{refl}
 use native.Mathlib.Omega.{arith}
 use Rattle.operation.specs.inner.Finishing.{detail_of, finished, table_finished}

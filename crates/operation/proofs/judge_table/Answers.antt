@@ -1,5 +1,4 @@
 -- `operation::judge_table` meets its contract: nothing where the table has no room, else what the engine says.
-use borrow.Author.Rules.{rules}
 use native.Mathlib.Omega.{arith}
 use mathlib.Core.Path.{◌∙◌}
 use Rattle.operation.proofs.Writer.{many, cramped, judged}

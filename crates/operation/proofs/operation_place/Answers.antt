@@ -1,5 +1,4 @@
 -- `operation::operation_place` meets its contract.
-use borrow.Author.Rules.{rules}
 use borrow.Author.Tests.{eq-eqb, ne_eqb}
 use Rattle.component.specs.Layout.{operation_place}
 use Rattle.operation.proofs.operation_place.Goals as goal

@@ -1,5 +1,4 @@
 -- `operation::row_answer` meets its contract: each case of the engine's answer with its number.
-use borrow.Author.Rules.{rules}
 use mathlib.Core.Path.{sym, ap, subst}
 use native.Mathlib.Omega.{arith}
 use Rattle.operation.specs.inner.Coded.{judged_in}

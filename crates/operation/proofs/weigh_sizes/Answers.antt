@@ -1,5 +1,4 @@
 -- `operation::weigh_sizes` meets its contract: what `measure` refuses, then what the row says, then the octets that were measured.
-use borrow.Author.Rules.{rules}
 use mathlib.Core.Path.{sym, ap, ◌∙◌}
 use Rattle.component.specs.Told.{measure_in}
 use Rattle.operation.specs.Told.{written_in}

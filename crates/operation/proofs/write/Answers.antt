@@ -1,5 +1,4 @@
 -- `operation::write` meets its contract: where the row accepts, what `compose` makes; else what `measure` refuses, and then what the row says.
-use borrow.Author.Rules.{rules}
 use mathlib.Core.Path.{sym, ap, ◌∙◌}
 use Rattle.component.specs.Told.{count_in, measure_in}
 use Rattle.operation.specs.inner.Coded.{judged_in}

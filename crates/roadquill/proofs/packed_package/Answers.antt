@@ -1,5 +1,4 @@
 -- `roadquill::packed_package` meets its contract.
-use borrow.Author.Rules.{rules}
 use Prim.Native.Nat.{◌<◌}
 use native.Mathlib.Omega.{arith}
 use Rattle.operation.specs.Packed.{octets}

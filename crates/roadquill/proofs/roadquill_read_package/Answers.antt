@@ -1,5 +1,4 @@
 -- `roadquill::roadquill_read_package` meets its contract.
-use borrow.Author.Rules.{rules}
 use mathlib.Core.Path.{ap, subst, sym, ◌∙◌}
 use lib.ListN.{length}
 use Rattle.package.specs.Packed.{packed_package, PackageFits}

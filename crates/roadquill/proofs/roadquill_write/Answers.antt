@@ -1,5 +1,4 @@
 -- `roadquill::roadquill_write` meets its contract: what `write` says is packed, and the octets that it counts are at most 4,096.
-use borrow.Author.Rules.{rules}
 use mathlib.Core.Path.{sym, ap, ◌∙◌}
 use lib.ListN.{length}
 use native.Mathlib.Omega.{arith}

@@ -1,6 +1,5 @@
 -- `roadquill::roadquill_write_package` meets its contract: what `write` says is packed, and the octets that it counts are at
 -- most 4,096.
-use borrow.Author.Rules.{rules}
 use mathlib.Core.Path.{sym, ap, ◌∙◌}
 use mathlib.Core.List.{map}
 use lib.ListN.{length}

@@ -1,5 +1,4 @@
 -- `component::body_size` meets its contract.
-use borrow.Author.Rules.{rules}
 use native.Mathlib.Omega.{arith}
 use Rattle.component.proofs.Sizing.{body_size_lem}
 use Rattle.component.proofs.composing.body_size.Goals as goal

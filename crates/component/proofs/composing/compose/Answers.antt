@@ -1,5 +1,4 @@
 -- `component::compose` meets its contract.
-use borrow.Author.Rules.{rules}
 use native.Mathlib.Omega.{arith}
 use mathlib.Core.Path.{sym, ap, ◌∙◌}
 use Rattle.component.specs.Told.{measure_in}

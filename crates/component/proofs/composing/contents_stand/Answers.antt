@@ -1,5 +1,4 @@
 -- `component::contents_stand` meets its contract.
-use borrow.Author.Rules.{rules}
 use borrow.Author.Tests.{le-leb, lt-leb}
 use Rattle.component.specs.Part.{fits}
 use Rattle.component.proofs.composing.contents_stand.Goals as goal

@@ -1,10 +1,8 @@
 -- `component::copy_blocks` meets its contract.
-use Prim.Native.Nat.{◌+◌, ◌-◌, ◌≤◌}
-use mathlib.Core.Path.{◌≡◌, refl, sym}
-use lib.ListN.{length, take, drop}
+use Prim.Native.Nat.{◌+◌, ◌-◌}
+use mathlib.Core.Path.{refl, sym}
 use borrow.Author.Rules.{rules}
 use native.Mathlib.Omega.{arith}
-use Rattle.element.specs.Field.{put}
 use Rattle.element.proofs.FieldLaws.{put_none}
 use Rattle.component.proofs.Putting.{so_far, further, both_ends}
 use Rattle.component.proofs.composing.copy_blocks.Goals as goal

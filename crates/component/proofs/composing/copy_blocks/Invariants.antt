@@ -1,12 +1,8 @@
 -- `component::copy_blocks` meets its contract.
-use Prim.Native.Nat.{◌+◌, ◌-◌, ◌≤◌}
-use mathlib.Core.Path.{◌≡◌, refl, sym}
+use Prim.Native.Nat.{◌-◌, ◌≤◌}
+use mathlib.Core.Path.{◌≡◌}
 use lib.ListN.{length, take, drop}
-use borrow.Author.Rules.{rules}
-use native.Mathlib.Omega.{arith}
 use Rattle.element.specs.Field.{put}
-use Rattle.element.proofs.FieldLaws.{put_none}
-use Rattle.component.proofs.Putting.{so_far, further, both_ends}
 use Rattle.component.proofs.composing.copy_blocks.Given as goal
 
 abbrev pub invariant-blocks-2 : goal.invariant-blocks-2

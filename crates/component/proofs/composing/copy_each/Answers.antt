@@ -1,10 +1,9 @@
 -- `component::copy_each` meets its contract.
-use Prim.Native.Nat.{◌-◌, ◌≤◌}
 use mathlib.Core.Path.{◌≡◌}
-use lib.ListN.{length, length-set}
+use lib.ListN.{length-set}
 use borrow.Author.Rules.{rules}
 use native.Mathlib.Omega.{arith}
-use Rattle.component.proofs.Putting.{copied, none_copied, more_copied, all_copied}
+use Rattle.component.proofs.Putting.{none_copied, more_copied, all_copied}
 use Rattle.component.proofs.composing.copy_each.Goals as goal
 
 pub octets-init : goal.octets-init

@@ -1,10 +1,8 @@
 -- `component::copy_each` meets its contract.
 use Prim.Native.Nat.{◌-◌, ◌≤◌}
 use mathlib.Core.Path.{◌≡◌}
-use lib.ListN.{length, length-set}
-use borrow.Author.Rules.{rules}
-use native.Mathlib.Omega.{arith}
-use Rattle.component.proofs.Putting.{copied, none_copied, more_copied, all_copied}
+use lib.ListN.{length}
+use Rattle.component.proofs.Putting.{copied}
 use Rattle.component.proofs.composing.copy_each.Given as goal
 
 abbrev pub invariant-octets : goal.invariant-octets

@@ -1,5 +1,4 @@
 -- `component::copy_ends` meets its contract.
-use borrow.Author.Rules.{rules}
 use Prim.Native.Nat.{◌-◌}
 use native.Mathlib.Omega.{arith}
 use Rattle.component.proofs.Putting.{both_ends}

@@ -1,5 +1,4 @@
 -- `component::element_size` meets its contract.
-use borrow.Author.Rules.{rules}
 use Rattle.element.proofs.LengthLaws as Length
 use Rattle.component.proofs.Sizing.{element_size_lem}
 use native.Mathlib.Omega.{arith}

@@ -1,5 +1,4 @@
 -- `component::put_code` meets its contract.
-use borrow.Author.Rules.{rules}
 use Rattle.component.specs.Types.{format_of}
 use Rattle.component.specs.Composed.{code_element}
 use Rattle.component.specs.Table.{written_code}

@@ -1,5 +1,4 @@
 -- `component::put_few` meets its contract.
-use borrow.Author.Rules.{rules}
 use Prim.Native.Nat.{◌+◌, ◌≤◌}
 use native.Mathlib.Numerals.{add-one, add-two, add-three}
 use mathlib.Core.Path.{◌≡◌}
@@ -11,7 +10,6 @@ use Rattle.component.proofs.Putting.{stored}
 use Rattle.component.proofs.composing.put_few.Goals as goal
 use Rattle.component.proofs.composing.put_few.Lts as lts
 use Rattle.component.proofs.composing.put_few.Reads as reads
-use Rattle.component.proofs.composing.put_few.Tie as tie
 
 room : (c : lts.Start reads.Pre reads.Post) → c.args.at + (c.args.count + 2) ≤ length c.args.out.now
 room c = omega (arith, few_size c.args.octet c.args.count c.args.first c.args.second c.requires.0)

@@ -1,15 +1,13 @@
 -- `component::put_fitting` meets its contract. The invariant: what is left of the octets, behind those that are put down.
 use Prim.Native.Nat.{◌+◌, ◌-◌, ◌≤◌, ◌<◌}
-use mathlib.Core.Path.{◌≡◌}
-use mathlib.Core.Logic.{⊎_elim}
 use lib.ListN.{length}
 use Rattle.component.specs.Table.{held, held_from, EntryStands}
 use Rattle.component.specs.inner.Emitting.{Put, fitting}
 use Rattle.component.proofs.Entries.{stands_true}
-use Rattle.component.proofs.Room.{octets_at, size_at, at_most, rest, rest_all, rest_none, no_stand, no_room, room_for, more_put}
+use Rattle.component.proofs.Room.{octets_at, size_at, at_most, rest_all, rest_none, no_stand, no_room, room_for, more_put}
 use borrow.Author.Rules.{rules}
 use native.Mathlib.Omega.{arith}
-use Rattle.component.proofs.Putting.{Left, begins, ends}
+use Rattle.component.proofs.Putting.{begins, ends}
 use Rattle.component.proofs.composing.put_fitting.Goals as goal
 use Rattle.component.proofs.composing.put_fitting.Goals.{else-out-next, then-out-next+else-out-next-2}
 use Rattle.component.proofs.composing.put_fitting.Lts as lts

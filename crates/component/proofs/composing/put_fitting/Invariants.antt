@@ -1,15 +1,11 @@
 -- `component::put_fitting` meets its contract. The invariant: what is left of the octets, behind those that are put down.
-use Prim.Native.Nat.{◌+◌, ◌-◌, ◌≤◌, ◌<◌}
+use Prim.Native.Nat.{◌-◌, ◌≤◌}
 use mathlib.Core.Path.{◌≡◌}
-use mathlib.Core.Logic.{⊎_elim}
 use lib.ListN.{length}
-use Rattle.component.specs.Table.{held, held_from, EntryStands}
-use Rattle.component.specs.inner.Emitting.{Put, fitting}
-use Rattle.component.proofs.Entries.{stands_true}
-use Rattle.component.proofs.Room.{octets_at, size_at, at_most, rest, rest_all, rest_none, no_stand, no_room, room_for, more_put}
-use borrow.Author.Rules.{rules}
-use native.Mathlib.Omega.{arith}
-use Rattle.component.proofs.Putting.{Left, begins, ends}
+use Rattle.component.specs.Table.{held_from}
+use Rattle.component.specs.inner.Emitting.{fitting}
+use Rattle.component.proofs.Room.{rest}
+use Rattle.component.proofs.Putting.{Left}
 use Rattle.component.proofs.composing.put_fitting.Given as goal
 
 abbrev pub invariant-entries : goal.invariant-entries

@@ -1,5 +1,4 @@
 -- `component::put_identifier` meets its contract.
-use borrow.Author.Rules.{rules}
 use Rattle.element.specs.Identifier.{only}
 use Rattle.element.proofs.IdentifierLaws.{sizes, octets}
 use Rattle.component.proofs.Putting.{by_value, value_room}

@@ -1,5 +1,4 @@
 -- `component::put_length` meets its contract.
-use borrow.Author.Rules.{rules}
 use Rattle.element.proofs.LengthLaws.{short, sizes, octets}
 use Rattle.component.proofs.Putting.{by_value, value_room}
 use Rattle.component.proofs.composing.put_length.Goals as goal

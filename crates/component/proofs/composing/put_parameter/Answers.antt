@@ -1,5 +1,4 @@
 -- `component::put_parameter` meets its contract.
-use borrow.Author.Rules.{rules}
 use native.Mathlib.Omega.{arith}
 use Rattle.component.proofs.Composition.{parameter, parameter_room}
 use Rattle.component.proofs.Putting.{then}

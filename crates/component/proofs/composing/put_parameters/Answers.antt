@@ -1,14 +1,9 @@
 -- `component::put_parameters` meets its contract.
-use Prim.Native.Nat.{◌-◌, ◌≤◌}
-use mathlib.Core.Path.{◌≡◌}
-use lib.ListN.{length}
-use Rattle.component.specs.Composed.{set_of}
-use Rattle.component.specs.Table.{parameters_from}
 use Rattle.component.proofs.Entries.{stands}
-use Rattle.component.proofs.Emission.{rest, rest_all, rest_none, room_for, more_put}
+use Rattle.component.proofs.Emission.{rest_all, rest_none, room_for, more_put}
 use borrow.Author.Rules.{rules}
 use native.Mathlib.Omega.{arith}
-use Rattle.component.proofs.Putting.{Left, begins, ends}
+use Rattle.component.proofs.Putting.{begins, ends}
 use Rattle.component.proofs.composing.put_parameters.Goals as goal
 
 pub entries-init : goal.entries-init

@@ -1,9 +1,6 @@
 -- `component::set_size` meets its contract.
-use Prim.Native.Nat.{◌*◌, ◌-◌, ◌≤◌}
-use mathlib.Core.Path.{◌≡◌, sym, ◌∙◌}
-use Rattle.component.specs.Composing.{entries_from}
-use Rattle.component.specs.inner.Emitting.{sized}
-use Rattle.component.proofs.Counting.{left, begins, ends, goes_on, stops}
+use mathlib.Core.Path.{sym, ◌∙◌}
+use Rattle.component.proofs.Counting.{begins, ends, goes_on, stops}
 use borrow.Author.Rules.{rules}
 use native.Mathlib.Omega.{arith}
 use Rattle.component.proofs.composing.set_size.Goals as goal

@@ -1,5 +1,4 @@
 -- `component::whole_size` meets its contract.
-use borrow.Author.Rules.{rules}
 use Rattle.component.proofs.Measuring.{too_long, measures}
 use Rattle.component.proofs.composing.whole_size.Goals as goal
 

@@ -1,5 +1,4 @@
 -- `component::behind_id` meets its contract.
-use borrow.Author.Rules.{rules}
 use mathlib.Core.Path.{◌≡◌, sym, ap, ◌∙◌}
 use native.Mathlib.Omega.{arith}
 use Rattle.element.specs.Answer.{accepted}

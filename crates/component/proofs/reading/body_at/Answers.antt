@@ -1,5 +1,4 @@
 -- `component::body_at` meets its contract.
-use borrow.Author.Rules.{rules}
 use Prim.Native.Nat.{suc}
 use mathlib.Core.Path.{◌≡◌, sym, ap, ◌∙◌}
 use lib.ListN.{length}

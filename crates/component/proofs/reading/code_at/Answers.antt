@@ -1,5 +1,4 @@
 -- `component::code_at` meets its contract.
-use borrow.Author.Rules.{rules}
 use mathlib.Core.Path.{◌≡◌}
 use native.Mathlib.Omega.{arith}
 use Rattle.component.specs.Types.{format_of}

@@ -1,9 +1,7 @@
 -- `component::coded_at` meets its contract.
-use borrow.Author.Rules.{rules}
 use Prim.Native.Nat.{suc, ◌+◌, ◌≤◌}
 use mathlib.Core.Path.{◌≡◌, sym, ap, ◌∙◌}
 use mathlib.Core.Bool.{true, ◌||◌, not}
-use mathlib.Core.Logic.{⊎_elim}
 use lib.ListN.{get_or}
 use lib.Dec.{eqb}
 use native.Mathlib.Omega.{arith}

@@ -1,5 +1,4 @@
 -- `component::element_from` meets its contract.
-use borrow.Author.Rules.{rules}
 use borrow.Author.Tests.{le-leb, lt-leb, le-ltb}
 use mathlib.Core.Path.{sym, ◌∙◌}
 use Rattle.component.specs.Layout.{element_from}

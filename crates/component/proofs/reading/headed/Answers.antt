@@ -1,5 +1,4 @@
 -- `component::headed` meets its contract.
-use borrow.Author.Rules.{rules}
 use mathlib.Core.Path.{refl}
 use Rattle.component.proofs.reading.headed.Goals as goal
 

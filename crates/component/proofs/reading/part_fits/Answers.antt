@@ -1,5 +1,4 @@
 -- `component::part_fits` meets its contract.
-use borrow.Author.Rules.{rules}
 use native.Mathlib.Omega.{arith}
 use Rattle.component.proofs.Fitting.{within, beyond}
 use Rattle.component.proofs.reading.part_fits.Goals as goal

@@ -1,5 +1,4 @@
 -- `component::set_at` meets its contract.
-use borrow.Author.Rules.{rules}
 use Rattle.component.proofs.Inside.{wanted_inside}
 use mathlib.Core.Path.{sym, ap, ◌∙◌}
 use native.Mathlib.Omega.{arith}

@@ -1,5 +1,5 @@
 -- `lines::Kept::after` meets its contract: the tests that led to a return say which way `after` goes.
-use Rattle.std.proofs.Common.{rules, eq-eqb, ne_eqb}
+use Rattle.std.proofs.Common.{eq-eqb, ne_eqb}
 use Rattle.lines.specs.Listing.{after}
 use Rattle.lines.proofs.Kept.after.Goals as goal
 

@@ -1,5 +1,5 @@
 -- `lines::packages::component_before` meets its contract.
-use Rattle.std.proofs.Common.{arith, rules}
+use Rattle.std.proofs.Common.{arith}
 use Rattle.lines.specs.Line.{line_of}
 use Rattle.lines.specs.Packages.{inside_line}
 use Rattle.lines.proofs.Fronts as fronts

@@ -1,7 +1,6 @@
 -- `lines::packages::components_before` meets its contract.
-use Rattle.std.proofs.Common.{◌≡◌, ◌+◌, ◌-◌, ◌*◌, ◌≤◌, length, arith, rules}
-use Rattle.lines.specs.Line.{Front, longest}
-use Rattle.lines.proofs.Parcels.{lines_from, begins, goes_on, ends}
+use Rattle.std.proofs.Common.{arith, rules}
+use Rattle.lines.proofs.Parcels.{begins, goes_on, ends}
 use Rattle.lines.proofs.packages.components_before.Goals as goal
 
 pub loop-left-init : goal.loop-left-init

@@ -1,7 +1,7 @@
 -- `lines::packages::components_before` meets its contract.
-use Rattle.std.proofs.Common.{◌≡◌, ◌+◌, ◌-◌, ◌*◌, ◌≤◌, length, arith, rules}
+use Rattle.std.proofs.Common.{◌≡◌, ◌+◌, ◌-◌, ◌*◌, ◌≤◌, length}
 use Rattle.lines.specs.Line.{Front, longest}
-use Rattle.lines.proofs.Parcels.{lines_from, begins, goes_on, ends}
+use Rattle.lines.proofs.Parcels.{lines_from}
 use Rattle.lines.proofs.packages.components_before.Given as goal
 
 abbrev pub invariant-loop-left : goal.invariant-loop-left

@@ -1,5 +1,5 @@
 -- `lines::packages::eight_of` meets its contract.
-use Rattle.std.proofs.Common.{arith, rules}
+use Rattle.std.proofs.Common.{arith}
 use Rattle.operation.specs.Packed.{octets}
 use Rattle.lines.specs.Packages.{eight_of}
 use Rattle.lines.proofs.packages.eight_of.Goals as goal

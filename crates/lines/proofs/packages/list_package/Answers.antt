@@ -1,5 +1,5 @@
 -- `lines::packages::list_package` meets its contract.
-use Rattle.std.proofs.Common.{sym, ◌∙◌, arith, rules}
+use Rattle.std.proofs.Common.{sym, ◌∙◌, arith}
 use Rattle.lines.specs.Packages.{packages}
 use Rattle.lines.proofs.Stepping.{cramped, skipped, item, never}
 use Rattle.lines.proofs.Handed.{Handed, handed}

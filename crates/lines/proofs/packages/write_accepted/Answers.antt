@@ -1,5 +1,4 @@
 -- `lines::packages::write_accepted` meets its contract.
-use Rattle.std.proofs.Common.{rules}
 use Rattle.lines.proofs.Putting.{named}
 use Rattle.lines.proofs.Fronts.{then, alone}
 use Rattle.lines.proofs.packages.write_accepted.Goals as goal

@@ -1,5 +1,4 @@
 -- `lines::packages::write_package` meets its contract.
-use Rattle.std.proofs.Common.{rules}
 use Rattle.lines.specs.Packages.{package_lines}
 use Rattle.lines.specs.inner.Parcels.{parcel_in}
 use Rattle.lines.proofs.Parcels.{counted}

@@ -1,14 +1,12 @@
 -- `operation::fault` meets its contract. The invariant: 12 is what is left of it. The first entry with an entry's key is searched for: none that was
 -- passed has it, and the entry itself does.
 use Prim.Native.Nat.{◌-◌, ◌≤◌}
-use mathlib.Core.Path.{◌≡◌, sym, ◌∙◌}
+use mathlib.Core.Path.{◌≡◌}
 use mathlib.Core.Bool.{false}
-use native.Mathlib.Omega.{arith}
-use borrow.Author.Rules.{rules}
 use Rattle.operation.specs.Row.{Row}
 use Rattle.operation.specs.Judge.{occurs}
 use Rattle.operation.specs.inner.Coded.{Names}
-use Rattle.operation.proofs.Entries.{earlier, one_more, not_yet, none_before, before, passed}
+use Rattle.operation.proofs.Entries.{earlier}
 use Rattle.operation.proofs.Repeats as R
 use Rattle.operation.proofs.engine.fault.Given as goal
 

@@ -1,12 +1,8 @@
 -- `operation::first_missing` meets its contract. The invariant: the whole answer is that of what is left of the list; what each key does is one law of
 -- `Musts`.
-use Prim.Native.Nat.{◌-◌}
-use mathlib.Core.Path.{◌≡◌, refl, sym, ◌∙◌}
-use lib.ListN.{length}
-use borrow.Author.Rules.{rules}
+use mathlib.Core.Path.{refl, sym, ◌∙◌}
 use borrow.Author.Tests.{not-true, not-false}
-use Rattle.operation.specs.inner.Firsts.{lacking}
-use Rattle.operation.proofs.Musts.{lacking_from, none_left, noted, not_one, other_noted, neither}
+use Rattle.operation.proofs.Musts.{none_left, noted, not_one, other_noted, neither}
 use Rattle.operation.proofs.engine.first_missing.Goals as goal
 
 pub names-init : goal.names-init

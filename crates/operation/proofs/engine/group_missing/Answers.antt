@@ -1,11 +1,8 @@
 -- `operation::group_missing` meets its contract. The invariant: the whole answer is that of the members that are left; what each does is one law of
 -- `Musts`.
-use Prim.Native.Nat.{◌-◌, ◌<◌}
-use mathlib.Core.Path.{◌≡◌, sym, ◌∙◌}
-use lib.ListN.{length}
+use mathlib.Core.Path.{sym, ◌∙◌}
 use borrow.Author.Rules.{rules}
-use Rattle.operation.specs.inner.Firsts.{lacking_all}
-use Rattle.operation.proofs.Musts.{group_from, none_held, one_held, not_held, no_group, a_group}
+use Rattle.operation.proofs.Musts.{none_held, one_held, not_held, no_group, a_group}
 use Rattle.operation.proofs.engine.group_missing.Goals as goal
 
 pub returns-then-group-eq0 : goal.returns-then-group-eq0

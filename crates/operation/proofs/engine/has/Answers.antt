@@ -1,6 +1,5 @@
 -- `operation::has` meets its contract: the bit of the key in its word, and beyond the words none.
 use mathlib.Core.Path.{sym}
-use borrow.Author.Rules.{rules}
 use Rattle.operation.proofs.Sets.{beyond, within}
 use Rattle.operation.proofs.engine.has.Goals as goal
 

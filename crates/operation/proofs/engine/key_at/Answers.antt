@@ -1,5 +1,4 @@
 -- `operation::key_at` meets its contract, by what `wide` ensures of the two numbers.
-use borrow.Author.Rules.{rules}
 use Rattle.operation.specs.Row.{key}
 use Rattle.operation.specs.inner.Coded.{item_at}
 use Rattle.operation.proofs.engine.key_at.Goals as goal

@@ -1,11 +1,8 @@
 -- `operation::last_of` meets its contract. The invariant: the last entry of the whole run is that of the entries that are left, from the last so far.
-use Prim.Native.Nat.{◌-◌}
-use mathlib.Core.Path.{◌≡◌, refl, sym, ap, ◌∙◌}
-use borrow.Author.Rules.{rules}
+use mathlib.Core.Path.{refl, sym, ap, ◌∙◌}
 use Rattle.operation.specs.Row.{one_of}
 use Rattle.operation.specs.Judge.{last_mark}
-use Rattle.operation.specs.inner.Coded.{items_from}
-use Rattle.operation.proofs.Entries.{rest, all, is_one, is_other, is_neither, last_known, last_here, last_other}
+use Rattle.operation.proofs.Entries.{all, is_one, is_other, is_neither, last_known, last_here, last_other}
 use Rattle.operation.proofs.engine.last_of.Goals as goal
 
 pub loop-at-init : goal.loop-at-init

@@ -1,15 +1,14 @@
 -- `operation::note` meets its contract. The invariant: 12, 26 and the count are what is left of them, by the laws of `Repeats`, and of the entries so
 -- far those that are named are noted, by the laws of `Noting`.
-use Prim.Native.Nat.{ℕ, ◌-◌, ◌/◌, ◌%◌, ◌<◌, ◌≤◌}
-use mathlib.Core.Path.{◌≡◌, sym, ◌∙◌}
+use Prim.Native.Nat.{ℕ, ◌/◌, ◌%◌, ◌<◌}
+use mathlib.Core.Path.{sym, ◌∙◌}
 use lib.ListN.{length, length-set, length-replicate}
 use native.Mathlib.Omega.{arith}
 use borrow.Author.Rules.{rules}
 use borrow.Author.Tests.{not-true, not-false}
-use Rattle.operation.specs.Row.{Row}
-use Rattle.operation.specs.inner.Coded.{Names, item_at}
+use Rattle.operation.specs.inner.Coded.{item_at}
 use Rattle.operation.proofs.Repeats as R
-use Rattle.operation.proofs.Sets.{inside, set_there, clear_there, shifted, word_room, Words, empty_words, still_words}
+use Rattle.operation.proofs.Sets.{inside, set_there, clear_there, shifted, word_room, empty_words, still_words}
 use Rattle.operation.proofs.Noting as N
 use Rattle.operation.proofs.engine.note.Goals as goal
 

@@ -5,7 +5,6 @@ use borrow.Author.Tests.{ne_eqb, eqb-false}
 use Rattle.element.specs.Answer.{refused}
 use Rattle.operation.specs.inner.Firsts.{missing_in}
 use Rattle.operation.proofs.Settling as S
-use borrow.Author.Rules.{rules}
 use Rattle.operation.proofs.engine.settle.Goals as goal
 
 pub returns-then-has-2 : goal.returns-then-has-2

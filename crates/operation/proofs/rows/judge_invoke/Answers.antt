@@ -1,6 +1,5 @@
 -- `operation::judge_invoke` meets its contract: what each arm holds is computed to be the paper's row for an invoke; the others are `judge_page`'s.
 use mathlib.Core.Path.{refl}
-use borrow.Author.Rules.{rules}
 use Rattle.operation.specs.Row.{key, members, some_of, among, asks_nothing, group_last}
 use Rattle.operation.specs.Finding.{rowed, row_of, find}
 use Rattle.operation.specs.Rows.{operations}

@@ -1,5 +1,4 @@
 -- `operation::judge_operation` meets its contract: an INVOKE and a RESULT have their rows, and another type has none.
-use borrow.Author.Rules.{rules}
 use Rattle.operation.proofs.Verdicts.{no_kind}
 use Rattle.operation.proofs.rows.judge_operation.Goals as goal
 

@@ -1,7 +1,6 @@
 -- `operation::judge_page` meets its contract: what each arm holds is computed to be the paper's row for an invoke, and where no arm has one the
 -- paper has none.
 use mathlib.Core.Path.{refl}
-use borrow.Author.Rules.{rules}
 use Rattle.operation.specs.Row.{key, members, some_of, among, asks_nothing, group_last}
 use Rattle.operation.specs.Finding.{rowed, row_of, find}
 use Rattle.operation.specs.Rows.{operations}

@@ -1,13 +1,11 @@
 -- `operation::parameters_from` meets its contract. The invariant: the whole is what is shown in the sheet and what is left; each need is one of
 -- the laws of `Walking`.
-use Prim.Native.Nat.{◌-◌, ◌≤◌}
-use mathlib.Core.Path.{◌≡◌, sym, ap, ◌∙◌}
-use lib.ListN.{length}
+use mathlib.Core.Path.{sym, ap, ◌∙◌}
 use native.Mathlib.Omega.{arith}
 use borrow.Author.Rules.{rules}
 use Rattle.component.specs.Told.{entry_in}
 use Rattle.component.proofs.Laying.{parameter_placed}
-use Rattle.operation.proofs.Walking.{Done, begins, ends, full, stops, goes_on}
+use Rattle.operation.proofs.Walking.{begins, ends, full, stops, goes_on}
 use Rattle.operation.proofs.sheet.parameters_from.Goals as goal
 
 pub parameters-init : goal.parameters-init

@@ -1,5 +1,4 @@
 -- `operation::show_entries` meets its contract.
-use borrow.Author.Rules.{rules}
 use borrow.Author.Tests.{le-leb, lt-leb}
 use mathlib.Core.Path.{refl, ◌∙◌}
 use Rattle.operation.specs.inner.Sheet.{shown_from}

@@ -1,5 +1,4 @@
 -- `operation::missized` meets its contract: the key's bit in the word of its size, and beyond the word no key has a size.
-use borrow.Author.Rules.{rules}
 use Rattle.operation.specs.inner.Coded.{bit}
 use Rattle.operation.proofs.Missizing.{beyond}
 use Rattle.operation.proofs.sizes.missized.Goals as goal

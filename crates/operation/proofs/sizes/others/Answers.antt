@@ -1,6 +1,5 @@
 -- `operation::others` meets its contract: each word is tested against the paper's sizes.
 use mathlib.Core.Path.{refl}
-use borrow.Author.Rules.{rules}
 use Rattle.operation.specs.Row.{key, some_of, among, allows}
 use Rattle.operation.specs.Rows.{fixed, sizes_in, sizes}
 use Rattle.operation.specs.inner.Coded.{bit}

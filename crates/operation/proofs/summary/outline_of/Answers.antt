@@ -1,5 +1,4 @@
 -- `operation::outline_of` meets its contract.
-use borrow.Author.Rules.{rules}
 use mathlib.Core.Path.{refl}
 use Rattle.operation.specs.Packed.{octet_at}
 use Rattle.operation.proofs.summary.outline_of.Goals as goal

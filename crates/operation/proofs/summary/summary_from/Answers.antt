@@ -1,5 +1,4 @@
 -- `operation::summary_from` meets its contract: what `read_from` says is packed, and its counts fit.
-use borrow.Author.Rules.{rules}
 use mathlib.Core.Path.{sym, ap, ◌∙◌}
 use lib.ListN.{length}
 use native.Mathlib.Omega.{arith}

@@ -1,5 +1,4 @@
 -- `package::carried_by` meets its contract.
-use borrow.Author.Rules.{rules}
 use Rattle.package.specs.Carriage.{line_of, lines, others}
 use Rattle.package.proofs.Carrying.{found, no_line}
 use Rattle.package.proofs.carriage.carried_by.Goals as goal

@@ -1,7 +1,5 @@
 -- `package::is_carried` meets its contract.
-use borrow.Author.Rules.{rules}
 use borrow.Author.Tests.{eq-eqb, ne_eqb}
-use mathlib.Core.Logic.{⊎_elim}
 use Rattle.operation.specs.Codes.{operation_of}
 use Rattle.package.specs.Reading.{carries}
 use Rattle.package.proofs.carriage.is_carried.Goals as goal

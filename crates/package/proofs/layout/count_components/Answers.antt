@@ -1,14 +1,13 @@
 -- `package::count_components` meets its contract. The invariant: what is counted so far, and what is left to be counted.
-use Prim.Native.Nat.{◌+◌, ◌-◌, ◌≤◌}
+use Prim.Native.Nat.{◌+◌}
 use mathlib.Core.Path.{◌≡◌, sym}
 use lib.ListN.{length}
 use native.Mathlib.Omega.{arith}
-use borrow.Author.Rules.{rules}
 use Rattle.element.specs.Answer.{accepted}
 use Rattle.component.specs.Layout.{span, contents}
 use Rattle.component.proofs.Inside.{Held, inside}
 use Rattle.package.proofs.Handed.{holds}
-use Rattle.package.proofs.Counting.{Counted, begins, ends, goes_on, stops}
+use Rattle.package.proofs.Counting.{begins, ends, goes_on, stops}
 use Rattle.package.proofs.layout.count_components.Goals as goal
 use Rattle.package.proofs.layout.count_components.Lts as lts
 use Rattle.package.proofs.layout.count_components.Reads as reads

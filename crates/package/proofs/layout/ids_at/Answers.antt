@@ -1,5 +1,4 @@
 -- `package::ids_at_lem` meets its contract.
-use borrow.Author.Rules.{rules}
 use mathlib.Core.Path.{◌≡◌, ◌∙◌}
 use lib.ListN.{length}
 use native.Mathlib.Omega.{arith}

@@ -1,6 +1,6 @@
 -- `package::read_rest` meets its contract.
 use Prim.Native.Nat.{◌-◌, ◌/◌, ◌%◌}
-use mathlib.Core.Path.{◌≡◌, refl, sym, ap, ◌∙◌}
+use mathlib.Core.Path.{refl, sym, ap, ◌∙◌}
 use lib.ListN.{length, length-drop}
 use Rattle.element.specs.Octets.{AreOctets}
 use Rattle.operation.specs.Reading.{table_after}
@@ -9,7 +9,6 @@ use Rattle.package.specs.inner.Leftover.{rest_in, leftover, done, tables_rest, p
 use Rattle.package.proofs.Left.{leads_on, stops, refusing, continues, none_left, all_done, not_done}
 use Rattle.package.proofs.Filling.{table_shown, place_shown, summary_shown, unchanged}
 use native.Mathlib.Omega.{arith}
-use borrow.Author.Rules.{rules}
 use borrow.Author.Rules.{part_to_end}
 use borrow.Rule.Slice.PartMut.{same_len_mid}
 use Rattle.package.proofs.reading.+read_rest.Goals as goal

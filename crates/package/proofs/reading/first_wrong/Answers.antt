@@ -1,5 +1,4 @@
 -- `package::first_wrong` meets its contract.
-use borrow.Author.Rules.{rules}
 use borrow.Author.Tests.{eq-eqb, ne_eqb}
 use mathlib.Core.Path.{◌≡◌, sym, ap, ◌∙◌}
 use Rattle.operation.specs.Packed.{told_in}

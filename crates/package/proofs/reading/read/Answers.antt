@@ -1,5 +1,4 @@
 -- `package::read` meets its contract.
-use borrow.Author.Rules.{rules}
 use Rattle.package.specs.Reading.{reading_into}
 use Rattle.package.proofs.reading.read.Goals as goal
 

@@ -1,5 +1,4 @@
 -- `package::show` meets its contract.
-use borrow.Author.Rules.{rules}
 use mathlib.Core.Path.{refl, ◌∙◌}
 use Rattle.package.proofs.Filling.{in_front}
 use Rattle.package.proofs.reading.show.Goals as goal

@@ -1,6 +1,5 @@
 -- `package::first_wrong` meets its contract.
 use mathlib.Core.Path.{sym, ◌∙◌}
-use borrow.Author.Rules.{rules}
 use borrow.Author.Tests.{lt-ltb, le-ltb}
 use Rattle.package.proofs.writing.first_wrong.Goals as goal
 

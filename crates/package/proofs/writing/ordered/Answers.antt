@@ -1,5 +1,4 @@
 -- `package::ordered` meets its contract.
-use borrow.Author.Rules.{rules}
 use Rattle.package.proofs.Weighing.{result_handed, handed}
 use Rattle.package.proofs.writing.ordered.Goals as goal
 

@@ -1,9 +1,9 @@
 -- `package::put_components` meets its contract. The invariant: what is left of the octets, behind those that are put down.
-use Prim.Native.Nat.{◌-◌, ◌≤◌}
+use Prim.Native.Nat.{◌≤◌}
 use lib.ListN.{length}
 use native.Mathlib.Omega.{arith}
 use borrow.Author.Rules.{rules}
-use Rattle.package.proofs.Laying.{Laying, begun, within, ended, more}
+use Rattle.package.proofs.Laying.{begun, within, ended, more}
 use Rattle.package.proofs.writing.put_components.Goals as goal
 use Rattle.package.proofs.writing.put_components.Lts as lts
 use Rattle.package.proofs.writing.put_components.Reads as reads

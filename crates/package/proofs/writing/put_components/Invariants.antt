@@ -1,9 +1,7 @@
 -- `package::put_components` meets its contract. The invariant: what is left of the octets, behind those that are put down.
 use Prim.Native.Nat.{◌-◌, ◌≤◌}
 use lib.ListN.{length}
-use native.Mathlib.Omega.{arith}
-use borrow.Author.Rules.{rules}
-use Rattle.package.proofs.Laying.{Laying, begun, within, ended, more}
+use Rattle.package.proofs.Laying.{Laying}
 use Rattle.package.proofs.writing.put_components.Given as goal
 
 abbrev pub invariant-components : goal.invariant-components

@@ -1,6 +1,5 @@
 -- `package::put_head` meets its contract.
 use lib.ListN.{length-set}
-use borrow.Author.Rules.{rules}
 use native.Mathlib.Omega.{arith}
 use Rattle.package.proofs.Fronting.{field_room, headed}
 use Rattle.package.proofs.writing.put_head.Goals as goal

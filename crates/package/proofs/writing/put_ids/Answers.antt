@@ -1,11 +1,10 @@
 -- `package::put_ids` meets its contract.
-use Prim.Native.Nat.{◌+◌, ◌-◌, ◌≤◌}
 use mathlib.Core.Path.{◌≡◌, refl}
 use lib.ListN.{length, length-set}
 use borrow.Author.Rules.{rules}
 use native.Mathlib.Omega.{arith}
 use native.Mathlib.Nat.{zero-add}
-use Rattle.component.proofs.Putting.{copied, none_copied, more_copied}
+use Rattle.component.proofs.Putting.{none_copied, more_copied}
 use Rattle.package.proofs.Fronting.{short_copied}
 use Rattle.package.proofs.writing.put_ids.Goals as goal
 

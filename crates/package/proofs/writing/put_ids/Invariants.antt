@@ -1,12 +1,8 @@
 -- `package::put_ids` meets its contract.
 use Prim.Native.Nat.{◌+◌, ◌-◌, ◌≤◌}
-use mathlib.Core.Path.{◌≡◌, refl}
-use lib.ListN.{length, length-set}
-use borrow.Author.Rules.{rules}
-use native.Mathlib.Omega.{arith}
-use native.Mathlib.Nat.{zero-add}
-use Rattle.component.proofs.Putting.{copied, none_copied, more_copied}
-use Rattle.package.proofs.Fronting.{short_copied}
+use mathlib.Core.Path.{◌≡◌}
+use lib.ListN.{length}
+use Rattle.component.proofs.Putting.{copied}
 use Rattle.package.proofs.writing.put_ids.Given as goal
 
 abbrev pub invariant-loop-i : goal.invariant-loop-i

@@ -1,7 +1,6 @@
 -- `package::put_weighed` meets its contract.
 use Prim.Native.Nat.{◌+◌}
 use lib.ListN.{length}
-use borrow.Author.Rules.{rules}
 use native.Mathlib.Omega.{arith}
 use Rattle.element.proofs.LengthLaws.{small}
 use Rattle.package.proofs.Laying.{Sized, sized, too_long, no_room, laid}

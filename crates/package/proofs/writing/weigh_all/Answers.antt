@@ -1,11 +1,9 @@
 -- `package::weigh_all` meets its contract. The invariant: what is left to be weighed is what is weighed of all, and what was weighed is noted.
-use Prim.Native.Nat.{◌*◌, ◌-◌, ◌≤◌}
+use Prim.Native.Nat.{◌≤◌}
 use mathlib.Core.Path.{sym, ap, ◌∙◌}
-use lib.ListN.{length}
 use native.Mathlib.Omega.{arith}
-use borrow.Author.Rules.{rules}
 use Rattle.component.specs.Told.{measure_in}
-use Rattle.package.proofs.Weighing.{few_octets, Going, begun, all_wrong, all_weighed, refuses_all, goes_on}
+use Rattle.package.proofs.Weighing.{few_octets, begun, all_wrong, all_weighed, refuses_all, goes_on}
 use Rattle.package.proofs.writing.weigh_all.Goals as goal
 use Rattle.package.proofs.writing.weigh_all.Lts as lts
 use Rattle.package.proofs.writing.weigh_all.Reads as reads
