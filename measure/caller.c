@@ -2,7 +2,6 @@
  * Calls one function on one component or one package, so many times: what ./bench measures.
  *
  *   caller count FUNCTION CASE ROUNDS [FILE]   so many rounds, and nothing else
- *   caller marked FUNCTION CASE [FILE]         a round between two calls of `mark`, after one that warms up
  *   caller time FUNCTION CASE [FILE]           nanoseconds a call
  *   caller size CASE [FILE]                    octets, parameters, calls a round
  *   caller stack FUNCTION CASE [FILE]          how deep a call touched the stack at most, in octets
@@ -69,8 +68,6 @@ static size_t call_count;
 static uint16_t table[4096];
 static uint8_t output[16384];
 static volatile uint64_t sink;
-
-void mark(void);
 
 static void stop(const char *why)
 {
@@ -629,12 +626,6 @@ static size_t calls_a_round(void)
     return call_count + (package.octets != 0);
 }
 
-/* What a trace of the run shows where the round that counts begins and ends. */
-__attribute__((noinline)) void mark(void)
-{
-    sink++;
-}
-
 static double seconds(void)
 {
     struct timespec now;
@@ -762,11 +753,6 @@ int main(int count, char **words)
     add(name, count > at + 1 ? words[at + 1] : "", function);
     if (strcmp(what, "count") == 0) {
         rounds(function, times);
-    } else if (strcmp(what, "marked") == 0) {
-        rounds(function, 1);
-        mark();
-        rounds(function, 1);
-        mark();
     } else if (strcmp(what, "time") == 0) {
         printf("%.1f\n", nanoseconds(function));
     } else if (sized) {
