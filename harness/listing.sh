@@ -172,7 +172,7 @@ expect 'standard error closed' "$status" 0 ''
 same 'standard error closed' "$dir/listed" "$corpus_listed"
 
 # the program gone: it is built again, which is said, and only then
-rm -f target/bin/listing
+rm -f crates/listing/out/listing
 ./roadquill "$corpus" >"$dir/listed" 2>"$dir/built" || say 'the program was not built again'
 same 'the program gone' "$dir/listed" "$corpus_listed"
 sed -e 's/proved in [0-9]* s$/proved/' "$dir/built" | tail -n 1 >"$dir/said"

@@ -7,18 +7,24 @@
 // their length, and the place of the identifier.
 #![tactic(auto)]
 
-use libc::{STDIN_FILENO, STDOUT_FILENO};
+use fields::Failure;
+use std::io::{Read, Write};
+use std::process::ExitCode;
 
-fn print(number: u16, mark: &[u8]) {
-    io::print_decimal(STDOUT_FILENO, number as u64);
-    io::write_all(STDOUT_FILENO, mark);
+fn print<W: Write>(to: &mut W, number: u16, mark: &[u8]) -> Result<(), Failure> {
+    write!(to, "{number}").map_err(Failure::Unwritten)?;
+    fields::write(to, mark)
 }
 
-fn main() {
+fn run<R: Read, W: Write>(from: &mut R, to: &mut W) -> Result<(), Failure> {
     let mut component = [0u8; 4097];
     let mut table = [0u16; component::TABLE];
-    fields::list(STDIN_FILENO, STDOUT_FILENO, &mut component, &mut table);
-    print(table[2], b" ");
-    print(table[3], b" ");
-    print(table[4], b"\n");
+    fields::list(from, to, &mut component, &mut table)?;
+    print(to, table[2], b" ")?;
+    print(to, table[3], b" ")?;
+    print(to, table[4], b"\n")
+}
+
+fn main(rt: HostRuntime) -> ExitCode {
+    fields::status(&rt, run(&mut rt.stdin(), &mut rt.stdout()))
 }

@@ -1,11 +1,17 @@
 // Lists a file of tagged fields that an independent program made, and says the same of it as that program.
 #![tactic(auto)]
 
-use libc::{STDIN_FILENO, STDOUT_FILENO};
+use fields::Failure;
+use std::io::{Read, Write};
+use std::process::ExitCode;
 
-fn main() {
-    io::write_all(STDOUT_FILENO, b"item answer detail named other\n");
+fn run<R: Read, W: Write>(from: &mut R, to: &mut W) -> Result<(), Failure> {
+    fields::write(to, b"item answer detail named other\n")?;
     let mut component = [0u8; 4097];
     let mut table = [0u16; component::TABLE];
-    fields::list(STDIN_FILENO, STDOUT_FILENO, &mut component, &mut table);
+    fields::list(from, to, &mut component, &mut table)
+}
+
+fn main(rt: HostRuntime) -> ExitCode {
+    fields::status(&rt, run(&mut rt.stdin(), &mut rt.stdout()))
 }

@@ -1,20 +1,27 @@
-// The loop that reads and writes: tagged fields are read from one descriptor, and lines are written to another. No
-// contract can say what is read or written, so these functions are proved safe and ending and state no outcome. What a
-// field does to the run is `lines::list_field`, or `lines::list_package`, which state all of it. A read or a write that
-// fails ends the run, and is said on standard error.
+// The loop that reads and writes: tagged fields are read from a reader, and lines are written to a writer. No contract
+// can say what the system reads or writes, so the loop is proved safe and ending and states no outcome. What a field does
+// to the run is `lines::list_field`, or `lines::list_package`, which state all of it. A read or a write that fails ends
+// the run, and is answered.
 #![tactic(auto)]
 
-ghost use Rattle.std.specs.Prelude.{◌≤◌, length};
+mod failure;
 
+ghost use Rattle.std.specs.Prelude.{◌≤◌, length, OnOk};
+ghost use Rattle.std.specs.Io.{ReadsAtMost};
+ghost use Rattle.std.specs.Io.KnownBytes.{Appends, Keeps};
+
+pub use failure::{Failure, status};
 use lines::{Field, Kept, LONGEST_PACKAGE, Listed};
+use std::io;
+use std::io::{ErrorKind, Read, Write};
 
 // What is left of the piece of input that was read last.
-#[derive(Drop)]
+#[derive(Clone, Copy)]
 struct Left {
     at: usize,
     end: usize,
-    // Whether the input ends here because it cannot be read on.
-    unread: bool,
+    // Why the input ends here, where it cannot be read on.
+    unread: Option<io::Error>,
 }
 
 #[derive(Drop)]
@@ -42,8 +49,8 @@ struct Run {
     filled: usize,
     more: bool,
     cut: bool,
-    // Whether a read or a write failed.
-    failed: bool,
+    // The read or the write that failed.
+    failed: Option<Failure>,
 }
 
 // As many octets at the front of a slice as there are.
@@ -56,8 +63,21 @@ fn front(octets: &[u8], size: usize) -> &[u8] {
 
 // ---- input
 
+// A piece of input, or none at its end. A read that a signal ended before it had any is made again.
+fn read<R: Read>(from: &mut R, piece: &mut [u8]) -> io::Result<usize>
+    ensures { ReadsAtMost result piece.new }
+{
+    for _ in 0..u64::MAX {
+        match from.read(piece) {
+            Err(error) if error.kind() == ErrorKind::Interrupted => {}
+            got => return got,
+        }
+    }
+    Err(io::Error::from(ErrorKind::Interrupted))
+}
+
 // What is left of a piece of input, and where there is nothing another piece; nothing of that at the input's end.
-fn ready(from: i32, piece: &mut [u8], left: Left) -> Left
+fn ready<R: Read>(from: &mut R, piece: &mut [u8], left: Left) -> Left
     ensures { result.end ≤ length piece.new }
 {
     if left.at < left.end {
@@ -65,15 +85,17 @@ fn ready(from: i32, piece: &mut [u8], left: Left) -> Left
             return left;
         }
     }
-    let got = libc::read(from, piece);
-    let unread = got < 0;
-    if unread {
-        os::fail(b"roadquill: the input cannot be read");
-    }
-    Left {
-        at: 0,
-        end: io::count(got, piece),
-        unread,
+    match read(from, piece) {
+        Ok(end) => Left {
+            at: 0,
+            end,
+            unread: None,
+        },
+        Err(error) => Left {
+            at: 0,
+            end: 0,
+            unread: Some(error),
+        },
     }
 }
 
@@ -84,10 +106,15 @@ fn keep(kept: &mut [u8], at: usize, octet: u8) {
 }
 
 // Takes so many octets of the input, or fewer at its end, and keeps those that there is room for.
-fn take(from: i32, piece: &mut [u8], left: Left, kept: &mut [u8], want: usize) -> Taken {
+fn take<R: Read>(
+    from: &mut R,
+    piece: &mut [u8],
+    left: Left,
+    kept: &mut [u8],
+    want: usize,
+) -> Taken {
     let mut left = left;
-    let mut count: usize = 0;
-    while count < want {
+    for count in 0..want {
         left = ready(from, piece, left);
         let at = left.at;
         if left.end <= at {
@@ -95,12 +122,11 @@ fn take(from: i32, piece: &mut [u8], left: Left, kept: &mut [u8], want: usize) -
         }
         keep(kept, count, piece[at]);
         left.at = at + 1;
-        count = count + 1;
     }
-    Taken { left, count }
+    Taken { left, count: want }
 }
 
-fn take_header(from: i32, piece: &mut [u8], left: Left) -> Head {
+fn take_header<R: Read>(from: &mut R, piece: &mut [u8], left: Left) -> Head {
     let mut header = [0u8; 3];
     let taken = take(from, piece, left, &mut header, 3);
     let left = taken.left;
@@ -114,47 +140,46 @@ fn take_header(from: i32, piece: &mut [u8], left: Left) -> Head {
 
 // ---- output
 
-// Writes all of the octets, or says that it cannot.
-pub fn write(to: i32, octets: &[u8]) -> bool {
-    let written = io::write_all(to, octets);
-    if !written {
-        os::fail(b"roadquill: the listing cannot be written");
-    }
-    written
+// Writes all of the octets, or says that it cannot, where some of them may be written.
+pub fn write<W: Write>(to: &mut W, octets: &[u8]) -> Result<(), Failure>
+    ensures { OnOk result (Appends (W.contents to.old) (W.contents to.new) octets.now) }
+{
+    to.write_all(octets).map_err(Failure::Unwritten)
 }
 
-// Closes what was written to: some file systems say only then that it was not kept.
-pub fn close(to: i32) -> bool {
-    let closed = libc::close(to) == 0;
-    if !closed {
-        os::fail(b"roadquill: the listing cannot be written");
-    }
-    closed
+// Ends what was written to: what the writer still holds is written. Standard output holds nothing, and std closes it
+// nowhere, though some file systems say only then that it was not kept: `./roadquill` has it closed.
+pub fn close<W: Write>(to: &mut W) -> Result<(), Failure>
+    ensures { Keeps (W.contents to.old) (W.contents to.new) }
+{
+    to.flush().map_err(Failure::Unwritten)
 }
 
 // Room for the lines of the next item: those that wait are written where the longest have no room behind them.
-fn make_room(to: i32, mut run: Run, text: &[u8]) -> Run {
+fn make_room<W: Write>(to: &mut W, mut run: Run, text: &[u8]) -> Run {
     if run.filled <= text.len() {
         if LONGEST_PACKAGE <= text.len() - run.filled {
             return run;
         }
     }
-    let written = write(to, front(text, run.filled));
+    run.failed = write(to, front(text, run.filled)).err();
     run.filled = 0;
-    run.more = written;
-    run.failed = !written;
+    run.more = run.failed.is_none();
     run
 }
 
-// Writes the lines that wait, and the last one of a run that was cut. Answers whether all was read and written.
-fn finish(to: i32, run: Run, text: &[u8]) -> bool {
-    if !write(to, front(text, run.filled)) {
-        return false;
+// Writes the lines that wait, and the last one of a run that was cut. Answers what failed first, where not all was read
+// and written.
+fn finish<W: Write>(to: &mut W, run: Run, text: &[u8]) -> Result<(), Failure> {
+    let written = write(to, front(text, run.filled));
+    if let Some(failure) = run.failed {
+        return Err(failure);
     }
+    written?;
     if run.cut {
         return write(to, b"cut\n");
     }
-    !run.failed
+    Ok(())
 }
 
 // ---- fields
@@ -163,8 +188,8 @@ impl Run {
     // No field is left: the input ends, within a field or between two, or cannot be read on.
     fn stopped(mut self, left: Left, within: bool) -> Self {
         self.more = false;
-        self.cut = within && !left.unread;
-        self.failed = left.unread;
+        self.cut = within && left.unread.is_none();
+        self.failed = left.unread.map(Failure::Unread);
         self
     }
 }
@@ -185,8 +210,8 @@ fn list_item(
 }
 
 // A whole field. The empty output has room for the longest lines.
-fn list_field(
-    to: i32,
+fn list_field<W: Write>(
+    to: &mut W,
     run: Run,
     tag: u8,
     contents: &[u8],
@@ -210,9 +235,9 @@ fn list_field(
 }
 
 // The contents of a field; of an item one octet more is kept than any has.
-fn list_contents(
-    from: i32,
-    to: i32,
+fn list_contents<R: Read, W: Write>(
+    from: &mut R,
+    to: &mut W,
     mut run: Run,
     tag: u8,
     size: usize,
@@ -231,9 +256,9 @@ fn list_contents(
     list_field(to, run, tag, front(octets, size), table, text)
 }
 
-fn step(
-    from: i32,
-    to: i32,
+fn step<R: Read, W: Write>(
+    from: &mut R,
+    to: &mut W,
     mut run: Run,
     piece: &mut [u8],
     octets: &mut [u8],
@@ -253,9 +278,15 @@ fn step(
     }
 }
 
-// Lists the fields of the input. A proved loop has to end, and nothing says that the input does. So the loop counts its
-// turns down, from a number that no run uses up. Answers whether all was read and written.
-fn list_fields(from: i32, to: i32, packages: bool, octets: &mut [u8], table: &mut [u16]) -> bool {
+// Lists the fields of the input. A proved loop has to end, and nothing says that the input does. So the loop has a
+// number of turns that no run uses up. Answers what failed first, where not all was read and written.
+fn list_fields<R: Read, W: Write>(
+    from: &mut R,
+    to: &mut W,
+    packages: bool,
+    octets: &mut [u8],
+    table: &mut [u16],
+) -> Result<(), Failure> {
     let mut pieces = [0u8; 16384];
     let piece: &mut [u8] = &mut pieces;
     let mut texts = [0u8; 8192];
@@ -265,28 +296,105 @@ fn list_fields(from: i32, to: i32, packages: bool, octets: &mut [u8], table: &mu
         left: Left {
             at: 0,
             end: 0,
-            unread: false,
+            unread: None,
         },
         kept: Kept::start(),
         filled: 0,
         more: true,
         cut: false,
-        failed: false,
+        failed: None,
     };
-    let mut turns = u64::MAX;
-    while 0 < turns && run.more {
+    for _ in 0..u64::MAX {
+        if !run.more {
+            break;
+        }
         run = step(from, to, run, piece, octets, table, text);
-        turns = turns - 1;
     }
     finish(to, run, text)
 }
 
 // Lists the components of the input, with octets and a table lent for one of them.
-pub fn list(from: i32, to: i32, component: &mut [u8], table: &mut [u16]) -> bool {
+pub fn list<R: Read, W: Write>(
+    from: &mut R,
+    to: &mut W,
+    component: &mut [u8],
+    table: &mut [u16],
+) -> Result<(), Failure> {
     list_fields(from, to, false, component, table)
 }
 
 // Lists the packages of the input, with octets and a table lent for one of them.
-pub fn list_packages(from: i32, to: i32, package: &mut [u8], table: &mut [u16]) -> bool {
+pub fn list_packages<R: Read, W: Write>(
+    from: &mut R,
+    to: &mut W,
+    package: &mut [u8],
+    table: &mut [u16],
+) -> Result<(), Failure> {
     list_fields(from, to, true, package, table)
+}
+
+#[cfg(test)]
+mod tests {
+    use super::*;
+    use std::test::Fail;
+
+    // An octet at a time, with an interruption before each.
+    #[derive(Drop)]
+    struct Halting<'a> {
+        octets: &'a [u8],
+        interrupted: bool,
+        // What fails behind the last octet, where the input does not end there.
+        behind: Option<io::Error>,
+    }
+
+    impl Read for Halting<'_> {
+        fn read(&mut self, piece: &mut [u8]) -> io::Result<usize> {
+            self.interrupted = !self.interrupted;
+            if self.interrupted {
+                return Err(io::Error::from(ErrorKind::Interrupted));
+            }
+            if piece.is_empty() {
+                return Ok(0);
+            }
+            match self.octets.split_first() {
+                Some((octet, others)) => {
+                    piece[0] = *octet;
+                    self.octets = others;
+                    Ok(1)
+                }
+                None => match self.behind {
+                    Some(error) => Err(error),
+                    None => Ok(0),
+                },
+            }
+        }
+    }
+
+    // A specifier, a component and, but for its last octet, another.
+    const CUT: &[u8] = &[
+        2, 0, 1, 4, 1, 0, 9, 0xEA, 7, 0xCF, 1, 5, 0xF2, 2, 0x85, 0, 1, 0, 2, 0xE9,
+    ];
+
+    #[test]
+    fn a_read_that_fails_is_no_end(rt: HostRuntime) -> Result<(), Fail> {
+        let fails = io::Error::from(ErrorKind::TimedOut);
+        let cases = [
+            (None, true, "1 0 0 1 0\ncut\n"),
+            (Some(fails), false, "1 0 0 1 0\n"),
+        ];
+        for (behind, whole, text) in cases {
+            let mut from = Halting {
+                octets: CUT,
+                interrupted: false,
+                behind,
+            };
+            let mut to = Vec::new(rt.alloc());
+            let mut component = [0u8; 4097];
+            let mut table = [0u16; 320];
+            let ended = list(&mut from, &mut to, &mut component, &mut table);
+            assert_eq!(rt; ended.is_ok(), whole);
+            assert_eq!(rt; to.as_slice(), text.as_bytes());
+        }
+        Ok(())
+    }
 }

@@ -1,15 +1,18 @@
 // Lists the components of the tagged fields on standard input.
 #![tactic(auto)]
 
-use libc::{STDIN_FILENO, STDOUT_FILENO};
+use fields::Failure;
+use std::io::{Read, Write};
+use std::process::ExitCode;
 
-fn main() {
-    if !fields::write(STDOUT_FILENO, b"item answer detail named other\n") {
-        return;
-    }
+fn run<R: Read, W: Write>(from: &mut R, to: &mut W) -> Result<(), Failure> {
+    fields::write(to, b"item answer detail named other\n")?;
     let mut component = [0u8; 4097];
     let mut table = [0u16; component::TABLE];
-    if fields::list(STDIN_FILENO, STDOUT_FILENO, &mut component, &mut table) {
-        fields::close(STDOUT_FILENO);
-    }
+    fields::list(from, to, &mut component, &mut table)?;
+    fields::close(to)
+}
+
+fn main(rt: HostRuntime) -> ExitCode {
+    fields::status(&rt, run(&mut rt.stdin(), &mut rt.stdout()))
 }

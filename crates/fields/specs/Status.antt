@@ -1,0 +1,8 @@
+-- The status of a program whose listing is not whole.
+use Rattle.std.specs.Prelude.{ℕ}
+use Rattle.fields.specs.declared.failure.Failure.{Failure}
+use Rattle.fields.specs.declared.failure.Failure.TheVariants.{Unread, Unwritten}
+
+abbrev pub status_of : Failure → ℕ
+status_of (Unread _) = 1
+status_of (Unwritten _) = 4
