@@ -6,9 +6,10 @@
 
 mod failure;
 
-ghost use Rattle.std.specs.Prelude.{◌≤◌, length, OnOk};
+ghost use Rattle.std.specs.Prelude.{◌≤◌, length, OnOk, IfErr};
 ghost use Rattle.std.specs.Io.{ReadsAtMost};
 ghost use Rattle.std.specs.Io.KnownBytes.{Appends, Keeps};
+ghost use Rattle.fields.specs.Status.{IsUnwritten};
 
 pub use failure::{Failure, status};
 use lines::{Field, Kept, LONGEST_PACKAGE, Listed};
@@ -142,7 +143,8 @@ fn take_header<R: Read>(from: &mut R, piece: &mut [u8], left: Left) -> Head {
 
 // Writes all of the octets, or says that it cannot, where some of them may be written.
 pub fn write<W: Write>(to: &mut W, octets: &[u8]) -> Result<(), Failure>
-    ensures { OnOk result (Appends (W.contents to.old) (W.contents to.new) octets.now) }
+    ensures written { OnOk result (Appends (W.contents to.old) (W.contents to.new) octets.now) }
+    ensures failed { IfErr result IsUnwritten }
 {
     to.write_all(octets).map_err(Failure::Unwritten)
 }
@@ -150,7 +152,8 @@ pub fn write<W: Write>(to: &mut W, octets: &[u8]) -> Result<(), Failure>
 // Ends what was written to: what the writer still holds is written. Standard output holds nothing, and std closes it
 // nowhere, though some file systems say only then that it was not kept: `./roadquill` has it closed.
 pub fn close<W: Write>(to: &mut W) -> Result<(), Failure>
-    ensures { Keeps (W.contents to.old) (W.contents to.new) }
+    ensures kept { Keeps (W.contents to.old) (W.contents to.new) }
+    ensures failed { IfErr result IsUnwritten }
 {
     to.flush().map_err(Failure::Unwritten)
 }
