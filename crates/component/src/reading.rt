@@ -137,6 +137,7 @@ pub fn wanted_from(octets: &[u8], octet: u8, number: u8, at: usize) -> Span
 }
 
 // The set of parameters that is wanted at `at`, and has to end where its parent ends.
+#[tactic(auto, unfolding(crate::specs::Layout::set_at))]
 fn set_at(s: &[u8], at: usize, end: usize) -> Span
     requires { (at ≤ end) × (end ≤ length s.now) × (length s.now ≤ 4096) }
     ensures { span_in result ≡ set_at s.now at end }

@@ -47,6 +47,7 @@ fn double(x: u8) -> u16
 // ---- length fields
 
 // The length field at the head of what is left of the parent, in any form that can say its value.
+#[tactic(auto, unfolding(crate::specs::Decoded::length_at))]
 pub fn read_length(rest: &[u8]) -> Length
     ensures { result ≡ length_at rest.now }
 {

@@ -82,6 +82,7 @@ impl Kept {
 
     // A field with the tag that is listed is counted, a specifier is kept for the items behind it, and all else is
     // skipped.
+    #[tactic(auto, unfolding(crate::specs::Listing::after))]
     pub fn after(mut self, listed: u8, tag: u8, contents: &[u8]) -> Self
         ensures { result ≡ after listed self (tagged tag contents.now) }
     {

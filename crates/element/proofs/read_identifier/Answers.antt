@@ -21,7 +21,7 @@ pub returns-then-number-lt31 : goal.returns-then-number-lt31
 returns-then-number-lt31 c = c.is.ensures ∙ low_bits _ _ (omega arith) (omega arith) (omega (arith, ltb-false)) (omega arith)
 
 -- where the low five bits are all ones
-ones : (c : lts.Else4 tie.the-claims reads.Pre reads.Post) → let d = c.before.before.before in let s = d.args.rest.now in numbered (d.double-lead.result / 32 % 2) s ≡ identifier_at s
+ones : (c : lts.Else4 tie.the-claims reads.Pre reads.Post) → let s = c.args.rest.now in numbered (c.double-lead.result / 32 % 2) s ≡ identifier_at s
 ones c = all_ones _ _ (omega arith) (omega arith) (omega (arith, ltb-false)) (omega arith)
 
 pub returns-then-rest-le1 : goal.returns-then-rest-le1

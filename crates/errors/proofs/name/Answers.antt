@@ -12,13 +12,11 @@ returns-then-code-gt142 c = high _ (search rules) c.if-code-gt142.true
 pub overflow_sub-result : goal.overflow_sub-result
 unfolding starts
 overflow_sub-result c =
-    let b = c.before.before in
-    rw (c.wide-start.ensures, c.wide-end.ensures, b.wide-line.ensures)
-    (lined _ (search rules) b.if-code-lt129.false b.if-code-gt142.false).0
+    rw (c.wide-start.ensures, c.wide-end.ensures, c.wide-line.ensures)
+    (lined _ (search rules) c.if-code-lt129.false c.if-code-gt142.false).0
 
 pub returns : goal.returns
 unfolding starts
 returns c =
-    let b = c.before.before in
-    rw (c.wide-start.ensures, c.wide-end.ensures, b.wide-line.ensures)
-    (lined _ (search rules) b.if-code-lt129.false b.if-code-gt142.false).1
+    rw (c.wide-start.ensures, c.wide-end.ensures, c.wide-line.ensures)
+    (lined _ (search rules) c.if-code-lt129.false c.if-code-gt142.false).1

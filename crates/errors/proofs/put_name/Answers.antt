@@ -19,5 +19,4 @@ slice_bounds-put-end c = omega (arith, inside (search rules) c.name-part.ensures
 pub returns : goal.returns
 unfolding named_in table6 octets_of names_in names
 returns c =
-    let b = c.before.before.before.before.before.before.before in
-    whole (search rules) b.name-part.ensures _ b.if-out-size.false c.put.ensures
+    whole (search rules) c.name-part.ensures _ c.if-out-size.false c.put.ensures

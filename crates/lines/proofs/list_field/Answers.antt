@@ -16,16 +16,10 @@ returns-then-tag-ne1 c = skipped components _ _ _ _ _ (omega arith) c.if-tag-ne1
 
 pub returns-in-Written : goal.returns-in-Written
 returns-in-Written c =
-    let written = c.before.before.before.before in
-    let read = written.before.before.before.before in
-    let behind = read.before.before.before in
-    item components _ _ _ _ _ (omega arith) read.if-tag-ne1.false behind.after-behind.ensures (ap (line_of _) read.read-reading.ensures.0) (line_short _ _)
-    (sym c.in-Written.is ∙ written.write_line.ensures.0) read.read-reading.ensures.1 written.write_line.ensures.1
+    item components _ _ _ _ _ (omega arith) (omega arith) c.after-behind.ensures (ap (line_of _) c.read-reading.ensures.0) (line_short _ _)
+    (sym c.in-Written.is ∙ c.write_line.ensures.0) c.read-reading.ensures.1 c.write_line.ensures.1
 
 pub returns-in-NoRoom : goal.returns-in-NoRoom
 returns-in-NoRoom c =
-    let written = c.before.before.before.before in
-    let read = written.before.before.before.before in
-    let behind = read.before.before.before in
-    never components _ _ _ _ _ (omega arith) read.if-tag-ne1.false behind.after-behind.ensures (ap (line_of _) read.read-reading.ensures.0) (line_short _ _)
-    (sym c.in-NoRoom.is ∙ written.write_line.ensures.0)
+    never components _ _ _ _ _ (omega arith) (omega arith) c.after-behind.ensures (ap (line_of _) c.read-reading.ensures.0) (line_short _ _)
+    (sym c.in-NoRoom.is ∙ c.write_line.ensures.0)

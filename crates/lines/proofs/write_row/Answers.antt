@@ -5,5 +5,4 @@ use Rattle.lines.proofs.write_row.Goals as goal
 
 pub returns : goal.returns
 returns c =
-    let put = c.before.before.before in
-    named _ _ (alone put.row_before-first.ensures.0) put.put.ensures
+    named _ _ (alone c.row_before-first.ensures.0) c.put.ensures

@@ -6,29 +6,24 @@ use Rattle.operation.proofs.finish.Goals as goal
 
 pub overflow_sub-result : goal.overflow_sub-result
 overflow_sub-result c =
-    let p = c.before.before.before.before.before.before.before in
-    omega (arith, rw p.in-Fits.is at p.requires.4)
+    omega (arith, rw c.in-Fits.is at c.requires.4)
 
 pub place_of-requires : goal.place_of-requires
 place_of-requires c =
-    let p = c.before in
-    omega (arith, rw p.in-Again.is at p.requires.4)
+    omega (arith, rw c.in-Again.is at c.requires.4)
 
 pub place_of-requires-in-WrongSize : goal.place_of-requires-in-WrongSize
 place_of-requires-in-WrongSize c =
-    let p = c.before in
-    omega (arith, rw p.in-WrongSize.is at p.requires.4)
+    omega (arith, rw c.in-WrongSize.is at c.requires.4)
 
 pub place_of-requires-in-Both : goal.place_of-requires-in-Both
 place_of-requires-in-Both c =
-    let p = c.before in
-    omega (arith, rw p.in-Both.is at p.requires.4)
+    omega (arith, rw c.in-Both.is at c.requires.4)
 
 pub returns-in-Fits : goal.returns-in-Fits
 unfolding finished table_finished
 returns-in-Fits c =
-    let p = c.before.before.before.before.before in
-    rw (p.in-Fits.is, ← c.id_of.ensures, ← c.code_of.ensures) (refl, p.copy_numbers.ensures)
+    rw (c.in-Fits.is, ← c.id_of.ensures, ← c.code_of.ensures) (refl, c.copy_numbers.ensures)
 
 pub returns-in-NoRow : goal.returns-in-NoRow
 unfolding finished table_finished detail_of

@@ -104,6 +104,5 @@ returns-in-Refused-parameters_from c =
 
 pub returns-in-Refused : goal.returns-in-Refused
 returns-in-Refused c =
-    let p = c.before.before in
-    let a = p.args in
-    reader.headless a.octets.now a.from a.specifier a.table.now (λ i. (p.shared_slice_known-1.given i).fits) p.if-table-lt-TABLE.false (sym (ap head_in c.in-Refused.is) ∙ p.head_from.ensures)
+    let a = c.args in
+    reader.headless a.octets.now a.from a.specifier a.table.now (λ i. (c.shared_slice_known-1.given i).fits) c.if-table-lt-TABLE.false (sym (ap head_in c.in-Refused.is) ∙ c.head_from.ensures)

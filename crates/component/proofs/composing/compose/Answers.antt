@@ -21,21 +21,16 @@ returns-then-out-whole c = no_room _ _ _ _ _ (sizes c.before.before) _ _ c.if-ou
 
 pub put_head-parameters-requires : goal.put_head-parameters-requires
 put_head-parameters-requires c =
-    let roomy = c.before.before in
-    let sized = roomy.before in
-    head_ready _ _ _ _ _ (sizes sized) _ sized.args.out.now roomy.if-out-whole.false
+    let sized = c.before.before.before in
+    head_ready _ _ _ _ _ (sizes sized) _ sized.args.out.now c.if-out-whole.false
 
 pub put_parameters-requires : goal.put_parameters-requires
 put_parameters-requires c =
-    let headed = c.before.before.before.before in
-    let roomy = headed.before.before in
-    set_ready _ _ _ _ _ (sizes roomy.before) _ _ roomy.if-out-whole.false headed.put_head-parameters.ensures headed.put_head-parameters.auto.out
+    set_ready _ _ _ _ _ (sizes c.before.before.before.before.before.before.before) _ _ c.if-out-whole.false c.put_head-parameters.ensures c.put_head-parameters.auto.out
 
 pub returns-in-Octets : goal.returns-in-Octets
 returns-in-Octets c =
-    let headed = c.before.before.before.before.before.before.before in
-    let roomy = headed.before.before in
-    all_put _ _ _ _ _ (sizes roomy.before) _ _ roomy.if-out-whole.false headed.put_head-parameters.ensures c.put_parameters.ensures
+    all_put _ _ _ _ _ (sizes c.before.before.before.before.before.before.before.before.before.before) _ _ c.if-out-whole.false c.put_head-parameters.ensures c.put_parameters.ensures
 
 pub returns-in-Refused : goal.returns-in-Refused
 returns-in-Refused c = refusal _ _ _ _ _ _ _ (sym (ap measure_in c.in-Refused.is) ∙ c.measure.ensures)

@@ -33,18 +33,16 @@ returns-then-table-count c = no_table _ _ _ _ _ _ _ _ c.if-octets-gt2.false c.if
 
 pub returns-then-out-element_size : goal.returns-then-out-element_size
 returns-then-out-element_size c =
-    let d = c.before.before.before.before.before in
-    no_room _ _ _ _ _ _ _ _ d.if-octets-gt2.false d.if-count-gt64.false d.if-set-gt4096.false d.if-table-count.false (omega (arith, c.if-out-element_size.true, whole c.before.before))
+    no_room _ _ _ _ _ _ _ _ c.if-octets-gt2.false c.if-count-gt64.false c.if-set-gt4096.false c.if-table-count.false (omega (arith, c.if-out-element_size.true, whole c.before.before))
 
 -- the head has room
 ready : (c : lts.Else5 tie.the-claims reads.Pre reads.Post) → let a = c.args in
     (a.id.count ≤ 2) × (body_size a.kind a.id.count a.set < 65536) × (a.set < 65536)
     × (length (head_octets a.kind a.id a.code (body_size a.kind a.id.count a.set) a.set) ≤ length a.out.now)
 ready c =
-    let d = c.before.before.before.before in
-    let a = d.args in
+    let a = c.args in
     head_ready a.kind a.id a.code a.count a.table.now a.source.now a.set a.out.now
-    d.if-octets-gt2.false d.if-count-gt64.false d.if-set-gt4096.false d.if-table-count.false (omega (arith, c.if-out-element_size.false, whole c.before))
+    c.if-octets-gt2.false c.if-count-gt64.false c.if-set-gt4096.false c.if-table-count.false (omega (arith, c.if-out-element_size.false, whole c.before))
 
 pub put_head-parameters-requires : goal.put_head-parameters-requires
 put_head-parameters-requires c = rw (bodied c.before.before.before.before.before, c.wide-2.ensures.0) (ready c.before.before.before)
@@ -62,8 +60,7 @@ put_fitting-requires c =
 pub returns : goal.returns
 returns c =
     let h = c.before.before.before.before.before.before.before in
-    let d = h.before.before.before.before.before.before.before in
-    let a = d.args in
-    all_laid a.kind a.id a.code a.count a.table.now a.source.now a.set a.out.now d.if-octets-gt2.false d.if-count-gt64.false d.if-set-gt4096.false d.if-table-count.false
+    let a = h.args in
+    all_laid a.kind a.id a.code a.count a.table.now a.source.now a.set a.out.now h.if-octets-gt2.false h.if-count-gt64.false h.if-set-gt4096.false h.if-table-count.false
     (omega (arith, h.if-out-element_size.false, whole h.before.before.before.before))
     (headed h) h.put_head-parameters.auto.out c.put_fitting.ensures

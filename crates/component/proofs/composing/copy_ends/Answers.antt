@@ -6,7 +6,6 @@ use Rattle.component.proofs.composing.copy_ends.Goals as goal
 
 pub returns : goal.returns
 returns c =
-    let start = c.before.before.before.before.before.before.before.before.before.before.before in
-    let a = start.args in
-    both_ends _ _ (a.size - a.width) a.width a.width a.size (omega arith) (omega arith) (omega arith) start.requires.0 start.requires.1
+    let a = c.args in
+    both_ends _ _ (a.size - a.width) a.width a.width a.size (omega arith) (omega arith) (omega arith) c.requires.0 c.requires.1
     c.copy_block.ensures c.copy_block-2.ensures

@@ -35,18 +35,14 @@ whole_size-requires c =
 
 pub returns-in-Of : goal.returns-in-Of
 returns-in-Of c =
-    let set = c.before.before.before in
-    let few = set.before.before in
-    let f = few.before in
+    let f = c.before.before.before.before.before.before in
     c.whole_size.ensures
-    ∙ by_set _ _ _ _ _ (known f.before.before) (fit f) few.if-count-gt64.false set.if-table-count.false (sym (ap count_in c.in-Of.is) ∙ set.set_size.ensures.0)
+    ∙ by_set _ _ _ _ _ (known f.before.before) (fit f) c.if-count-gt64.false c.if-table-count.false (sym (ap count_in c.in-Of.is) ∙ c.set_size.ensures.0)
 
 pub returns-in-Refused : goal.returns-in-Refused
 returns-in-Refused c =
-    let set = c.before.before in
-    let few = set.before.before in
-    let f = few.before in
-    no_entry _ _ _ _ _ (known f.before.before) (fit f) few.if-count-gt64.false set.if-table-count.false (sym (ap count_in c.in-Refused.is) ∙ set.set_size.ensures.0)
+    let f = c.before.before.before.before.before in
+    no_entry _ _ _ _ _ (known f.before.before) (fit f) c.if-count-gt64.false c.if-table-count.false (sym (ap count_in c.in-Refused.is) ∙ c.set_size.ensures.0)
 
 pub returns : goal.returns
 returns c = no_id _ _ _ _ _ (known c.before.before.before) (sym c.id_fits.ensures ∙ c.if-id_fits.false)

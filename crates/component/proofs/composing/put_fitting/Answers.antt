@@ -19,60 +19,49 @@ entries-init c = (search rules, search rules, search rules, rw (← rest_all _ _
 
 -- the entry stands, where the tests on the way say so
 stood : (c : lts.Else4 tie.the-claims reads.Pre reads.Post goal.the-invariant-entries goal.the-decreases-entries) →
-    let l = c.before.before.before.before.before.before.before.before.before.before in
-    let a = l.args in EntryStands a.source.now (held a.table.now l.entries.i)
+    let a = c.args in EntryStands a.source.now (held a.table.now c.entries.i)
 stood c =
-    let two = c.before.before.before in
-    let one = two.before.before in
-    record { number = c.if-number-gt16383.false; form = c.if-form-gt1.false; content = omega (arith, c.if-source-start.false, one.wide-start.ensures.0, two.wide-size.ensures.0) }
+    record { number = c.if-number-gt16383.false; form = c.if-form-gt1.false; content = omega (arith, c.if-source-start.false, c.wide-start.ensures.0, c.wide-size.ensures.0) }
 
 -- and its parameter finds room
 roomy : (c : lts.Joined5 tie.the-claims reads.Pre reads.Post goal.the-invariant-entries goal.the-decreases-entries) →
     let l = c.before.before.before.before.before.before.before.before.before.before.before in
     let a = l.args in size_at (held a.table.now l.entries.i) ≤ length a.out.now - l.entries.next
 roomy c =
-    let two = c.before.before.before.before in
-    let l = two.before.before.before.before.before.before.before in
-    (elim c.if-out-next.branch [ then-out-next+else-out-next-2 w ↦ omega (arith, simp (stands_true (stood c.before)) at w.entry_size.ensures.0, w.if-out-next-2.false) | else-out-next w ↦ omega (arith, at_most (held l.args.table.now l.entries.i) (omega (arith, two.wide-size.ensures)), two.wide-size.ensures.0, w.if-out-next.false) ])
+    let l = c.before.before.before.before.before.before.before.before.before.before.before in
+    (elim c.if-out-next.branch [ then-out-next+else-out-next-2 w ↦ omega (arith, simp (stands_true (stood c.before)) at w.entry_size.ensures.0, w.if-out-next-2.false) | else-out-next w ↦ omega (arith, at_most (held l.args.table.now l.entries.i) (omega (arith, c.wide-size.ensures)), c.wide-size.ensures.0, w.if-out-next.false) ])
 
 short : (c : lts.Joined5 tie.the-claims reads.Pre reads.Post goal.the-invariant-entries goal.the-decreases-entries) →
-    let l = c.before.before.before.before.before.before.before.before.before.before.before in (held l.args.table.now l.entries.i).size < 65536
+    (held c.args.table.now c.entries.i).size < 65536
 short c = omega (arith, c.wide-size.ensures)
 
 put_room : (c : lts.Joined5 tie.the-claims reads.Pre reads.Post goal.the-invariant-entries goal.the-decreases-entries) →
-    let l = c.before.before.before.before.before.before.before.before.before.before.before in
-    let a = l.args in l.entries.next + length (octets_at a.source.now (held a.table.now l.entries.i)) ≤ length a.out.now
+    let a = c.args in c.entries.next + length (octets_at a.source.now (held a.table.now c.entries.i)) ≤ length a.out.now
 put_room c =
-    let some = c.before.before.before.before.before.before.before.before.before.before in
-    let a = some.args in
-    room_for a.count a.table.now a.source.now _ _ _ some.if-count-i.false (stood c.before) (short c) (roomy c) some.entries.invariant.2
+    let a = c.args in
+    room_for a.count a.table.now a.source.now _ _ _ c.if-count-i.false (stood c.before) (short c) (roomy c) c.entries.invariant.2
 
 pub put_parameter-next-requires : goal.put_parameter-next-requires
 put_parameter-next-requires c =
     let d = c.before.before.before in
-    let two = d.before.before.before in
-    let one = two.before.before in
     let s = stood d in (
       s.number,
       s.form,
-      omega (arith, s.content, one.wide-start.ensures.0, two.wide-size.ensures.0),
+      omega (arith, s.content, d.wide-start.ensures.0, d.wide-size.ensures.0),
       search rules,
-      rw (one.wide-start.ensures.0, two.wide-size.ensures.0) (omega (arith, put_room c.before.before, one.entries.invariant.1)),
+      rw (d.wide-start.ensures.0, d.wide-size.ensures.0) (omega (arith, put_room c.before.before, d.entries.invariant.1)),
     )
 
 pub entries-preserved : goal.entries-preserved
 entries-preserved c =
     let j = c.before.before.before.before.before in
-    let two = j.before.before.before.before in
-    let one = two.before.before in
-    let some = one.before.before.before.before in
-    let a = some.args in
-    let put = rw (one.wide-start.ensures.0, two.wide-size.ensures.0) at c.put_parameter-next.ensures in
-    let l = some.entries.invariant in (
+    let a = j.args in
+    let put = rw (j.wide-start.ensures.0, j.wide-size.ensures.0) at c.put_parameter-next.ensures in
+    let l = j.entries.invariant in (
       search rules,
       omega arith,
       omega (arith, put_room j, put.place),
-      more_put a.count a.table.now a.source.now _ _ _ some.if-count-i.false (stood j.before) (short j) (roomy j) l.3 put (omega (arith, l.1, l.2)),
+      more_put a.count a.table.now a.source.now _ _ _ j.if-count-i.false (stood j.before) (short j) (roomy j) l.3 put (omega (arith, l.1, l.2)),
     )
 
 pub returns-then-count-i : goal.returns-then-count-i
@@ -95,14 +84,11 @@ returns-then-form-gt1 c = no_entry c.before.before.before.before.before.before.b
 
 pub returns-then-source-start : goal.returns-then-source-start
 returns-then-source-start c =
-    let two = c.before.before.before.before in
-    let one = two.before.before in
-    no_entry one.before.before.before.before λ s. omega (arith, s.content, c.if-source-start.true, one.wide-start.ensures.0, two.wide-size.ensures.0)
+    no_entry c.before.before.before.before.before.before.before.before.before.before λ s. omega (arith, s.content, c.if-source-start.true, c.wide-start.ensures.0, c.wide-size.ensures.0)
 
 pub returns-then-out-next-2 : goal.returns-then-out-next-2
 returns-then-out-next-2 c =
     let d = c.before.before.before.before in
-    let some = d.before.before.before.before.before.before.before.before.before in
-    let a = some.args in
-    ends (rw (no_room a.count a.table.now a.source.now (length a.out.now - some.entries.next) some.entries.i some.if-count-i.false
-    (omega (arith, simp (stands_true (stood d)) at c.entry_size.ensures.0, c.if-out-next-2.true, some.entries.invariant.1))) at some.entries.invariant.3)
+    let a = d.args in
+    ends (rw (no_room a.count a.table.now a.source.now (length a.out.now - d.entries.next) d.entries.i d.if-count-i.false
+    (omega (arith, simp (stands_true (stood d)) at c.entry_size.ensures.0, c.if-out-next-2.true, d.entries.invariant.1))) at d.entries.invariant.3)

@@ -20,23 +20,19 @@ put_few-encoded-requires c = omega (arith, head_room _ _ _ _ _ c.requires.3, sim
 
 pub put_code-parameters-requires : goal.put_code-parameters-requires
 put_code-parameters-requires c =
-    let sized = c.before.before.before.before.before.before.before in
-    omega (arith, head_room _ _ _ _ _ sized.requires.3, simp length-set at sized.put_length-component.auto.out)
+    omega (arith, head_room _ _ _ _ _ c.requires.3, simp length-set at c.put_length-component.auto.out)
 
 pub bounds-out-parameters : goal.bounds-out-parameters
 bounds-out-parameters c =
-    let sized = c.before.before.before.before.before.before.before.before.before.before in
-    omega (arith, head_room _ _ _ _ _ sized.requires.3, simp length-set at sized.put_length-component.auto.out)
+    omega (arith, head_room _ _ _ _ _ c.requires.3, simp length-set at c.put_length-component.auto.out)
 
 pub overflow_add-parameters : goal.overflow_add-parameters
 overflow_add-parameters c =
-    let sized = c.before.before.before.before.before.before.before.before.before.before.before in
-    omega (arith, head_room _ _ _ _ _ sized.requires.3, simp length-set at sized.put_length-component.auto.out)
+    omega (arith, head_room _ _ _ _ _ c.requires.3, simp length-set at c.put_length-component.auto.out)
 
 pub put_length-requires : goal.put_length-requires
 put_length-requires c =
-    let sized = c.before.before.before.before.before.before.before.before.before.before.before in
-    simp length-set (omega (arith, head_room _ _ _ _ _ sized.requires.3, simp length-set at sized.put_length-component.auto.out))
+    simp length-set (omega (arith, head_room _ _ _ _ _ c.requires.3, simp length-set at c.put_length-component.auto.out))
 
 pub shape_of-out : goal.shape_of-out
 shape_of-out c = omega (arith, simp length-set at c.put_length-component.auto.out, simp length-set at c.put_length.auto.out)
@@ -44,14 +40,11 @@ shape_of-out c = omega (arith, simp length-set at c.put_length-component.auto.ou
 pub returns : goal.returns
 unfolding head_octets id_octets
 returns c =
-    let coded = c.before.before.before.before.before.before.before in
-    let named = coded.before.before.before.before in
-    let sized = named.before.before.before.before in
-    let room = head_room _ sized.args.id _ _ _ sized.requires.3 in
-    let kept = simp length-set at sized.put_length-component.auto.out in
-    then (then (then (then {g = element (0xCF ∷ []) (id_octets sized.args.id)}
-    (then (stored (_ ∷ []) _ _ (omega arith)) sized.put_length-component.ensures (omega arith))
-    named.put_few-encoded.ensures (omega arith))
-    coded.put_code-parameters.ensures (omega arith))
+    let room = head_room _ c.args.id _ _ _ c.requires.3 in
+    let kept = simp length-set at c.put_length-component.auto.out in
+    then (then (then (then {g = element (0xCF ∷ []) (id_octets c.args.id)}
+    (then (stored (_ ∷ []) _ _ (omega arith)) c.put_length-component.ensures (omega arith))
+    c.put_few-encoded.ensures (omega arith))
+    c.put_code-parameters.ensures (omega arith))
     (stored (_ ∷ []) _ _ (omega arith)) (omega arith))
     c.put_length.ensures (omega arith)

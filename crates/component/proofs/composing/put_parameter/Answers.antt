@@ -15,9 +15,6 @@ copy_octets-requires c = omega (arith, parameter_room _ _ _ _ c.requires.2 _ c.r
 
 pub returns : goal.returns
 returns c =
-    let sized = c.before.before.before.before.before.before.before in
-    let named = sized.before.before.before.before in
-    let start = named.before.before.before.before in
-    let room = parameter_room _ _ _ _ start.requires.2 _ start.requires.4 in
-    rw (← parameter _ _ _ _ start.requires.2)
-    (then (then named.put_identifier-field.ensures sized.put_length-contents.ensures (omega arith)) c.copy_octets.ensures (omega arith))
+    let room = parameter_room _ _ _ _ c.requires.2 _ c.requires.4 in
+    rw (← parameter _ _ _ _ c.requires.2)
+    (then (then c.put_identifier-field.ensures c.put_length-contents.ensures (omega arith)) c.copy_octets.ensures (omega arith))

@@ -11,28 +11,21 @@ entries-init c = (search rules, search rules, rw (← rest_all _ _ _) begins)
 
 pub put_parameter-next-requires : goal.put_parameter-next-requires
 put_parameter-next-requires c =
-    let two = c.before.before.before.before in
-    let one = two.before.before in
-    let turn = one.before.before in
-    let head = turn.before in
-    let s = stands (head.requires.2 _ turn.entries-test.true) in (
+    let s = stands (c.requires.2 _ c.entries-test.true) in (
       s.number,
       s.form,
       omega (arith, s.content),
       search rules,
-      room_for _ _ _ _ turn.entries-test.true one.wide-start.ensures.0 two.wide-size.ensures.0 head.entries.invariant.2 (omega arith),
+      room_for _ _ _ _ c.entries-test.true c.wide-start.ensures.0 c.wide-size.ensures.0 c.entries.invariant.2 (omega arith),
     )
 
 pub entries-preserved : goal.entries-preserved
 entries-preserved c =
-    let two = c.before.before.before.before.before.before.before in
-    let one = two.before.before in
-    let turn = one.before.before in
-    let left = turn.entries.invariant.2 in (
+    let left = c.entries.invariant.2 in (
       search rules,
       omega arith,
-      more_put _ _ _ _ turn.entries-test.true one.wide-start.ensures.0 two.wide-size.ensures.0 left
-          c.put_parameter-next.ensures (omega (arith, left.place, turn.requires.3)),
+      more_put _ _ _ _ c.entries-test.true c.wide-start.ensures.0 c.wide-size.ensures.0 left
+          c.put_parameter-next.ensures (omega (arith, left.place, c.requires.3)),
     )
 
 pub returns : goal.returns

@@ -10,13 +10,11 @@ entries-init c = (search rules, search rules, begins _ _ _)
 
 pub entries-preserved : goal.entries-preserved
 entries-preserved c =
-    let turn = c.before.before.before in
-    (search rules, omega arith, turn.entries.invariant.2 ∙ sym (goes_on _ _ _ _ _ turn.if-count-i.false c.entry_size-size.ensures.0 c.if-size-eq0.false))
+    (search rules, omega arith, c.entries.invariant.2 ∙ sym (goes_on _ _ _ _ _ c.if-count-i.false c.entry_size-size.ensures.0 c.if-size-eq0.false))
 
 pub returns-then-count-i : goal.returns-then-count-i
 returns-then-count-i c = (ends _ _ _ _ _ c.if-count-i.true ∙ sym c.entries.invariant.2, omega arith)
 
 pub returns-then-size-eq0 : goal.returns-then-size-eq0
 returns-then-size-eq0 c =
-    let turn = c.before.before.before in
-    (stops _ _ _ _ _ turn.if-count-i.false c.entry_size-size.ensures.0 c.if-size-eq0.true ∙ sym turn.entries.invariant.2, tt)
+    (stops _ _ _ _ _ c.if-count-i.false c.entry_size-size.ensures.0 c.if-size-eq0.true ∙ sym c.entries.invariant.2, tt)

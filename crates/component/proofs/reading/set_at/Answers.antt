@@ -2,21 +2,12 @@
 use Rattle.component.proofs.Inside.{wanted_inside}
 use mathlib.Core.Path.{sym, ap, ◌∙◌}
 use native.Mathlib.Omega.{arith}
-use borrow.Author.Tests.{eq-eqb, ne_eqb}
 use Rattle.component.specs.Layout.{set_at}
 use Rattle.component.specs.Told.{span_in}
 use Rattle.component.proofs.reading.set_at.Goals as goal
 
 pub overflow_cast-result : goal.overflow_cast-result
 overflow_cast-result c = omega (arith, wanted_inside c.args.s.now (λ i. (c.shared_slice_known-1.given i).fits) 0xF2 8 (sym c.wanted_at.ensures ∙ ap span_in c.in-Found.is))
-
-pub returns-then-set_end-end : goal.returns-then-set_end-end
-unfolding set_at
-returns-then-set_end-end c = simp (sym c.wanted_at.ensures ∙ ap span_in c.in-Found.is, ne_eqb _ _ c.if-set_end-end.true)
-
-pub returns-else-set_end-end : goal.returns-else-set_end-end
-unfolding set_at
-returns-else-set_end-end c = simp (sym c.wanted_at.ensures ∙ ap span_in c.in-Found.is, eq-eqb _ _ c.if-set_end-end.false)
 
 pub returns-in-Refused : goal.returns-in-Refused
 unfolding set_at

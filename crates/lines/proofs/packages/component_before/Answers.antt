@@ -8,5 +8,4 @@ use Rattle.lines.proofs.packages.component_before.Goals as goal
 pub returns : goal.returns
 unfolding inside_line line_of
 returns c =
-    let line = c.before.before in
-    (rw (← line.less-other.ensures) (fronts.then line.row_before-line.ensures.0 (fronts.one _ _ _ (omega arith) (omega arith))), omega arith)
+    (rw (← c.less-other.ensures) (fronts.then c.row_before-line.ensures.0 (fronts.one _ _ _ (omega arith) (omega arith))), omega arith)

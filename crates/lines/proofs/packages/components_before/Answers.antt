@@ -8,9 +8,8 @@ loop-left-init c = (search rules, search rules, search rules, begins _ _ _)
 
 pub loop-left-preserved : goal.loop-left-preserved
 loop-left-preserved c =
-    let before = c.before.before.before in
-    let loop = before.loop-left in
-    (search rules, search rules, omega arith, goes_on _ _ _ loop.invariant.3 (omega arith) (omega arith) before.component_before-start.ensures.0)
+    let loop = c.loop-left in
+    (search rules, search rules, omega arith, goes_on _ _ _ loop.invariant.3 (omega arith) (omega arith) c.component_before-start.ensures.0)
 
 pub returns : goal.returns
 returns c = (ends _ _ _ c.loop-left.invariant.3 (omega arith), omega arith)

@@ -18,8 +18,7 @@ pub returns-then-tag-ne5 : goal.returns-then-tag-ne5
 returns-then-tag-ne5 c = skipped packages _ _ _ _ _ (omega arith) c.if-tag-ne5.true c.after-behind.ensures
 
 -- what was read
-read : (c : lts.After-read tie.the-claims reads.Pre reads.Post) → let start = c.before.before.before.before.before.before.before.before.before.before in
-    Handed start.args.contents.now start.args.kept.specifier start.args.table.now c.read-reading.result c.read-reading.new.table
+read : (c : lts.After-read tie.the-claims reads.Pre reads.Post) → Handed c.args.contents.now c.args.kept.specifier c.args.table.now c.read-reading.result c.read-reading.new.table
 read c =
     handed _ (λ i. (c.shared_slice_known-1.given i).fits) _ _
     c.eight_of.ensures c.read-reading.result c.read-reading.ensures
@@ -29,16 +28,12 @@ write_package-requires c = (read c.before.before.before.before).few
 
 pub returns-in-Written : goal.returns-in-Written
 returns-in-Written c =
-    let written = c.before.before.before.before in
-    let there = written.before.before.before.before in
-    let chosen = there.before.before.before in
-    item packages _ _ _ _ _ (omega arith) chosen.if-tag-ne5.false chosen.after-behind.ensures ((read there).lines _)
-    ((read there).short _) (sym c.in-Written.is ∙ written.write_package.ensures.0) (read there).left written.write_package.ensures.1
+    let there = c.before.before.before.before.before.before.before.before in
+    item packages _ _ _ _ _ (omega arith) there.if-tag-ne5.false there.after-behind.ensures ((read there).lines _)
+    ((read there).short _) (sym c.in-Written.is ∙ c.write_package.ensures.0) (read there).left c.write_package.ensures.1
 
 pub returns-in-NoRoom : goal.returns-in-NoRoom
 returns-in-NoRoom c =
-    let written = c.before.before.before.before in
-    let there = written.before.before.before.before in
-    let chosen = there.before.before.before in
-    never packages _ _ _ _ _ (omega arith) chosen.if-tag-ne5.false chosen.after-behind.ensures ((read there).lines _)
-    ((read there).short _) (sym c.in-NoRoom.is ∙ written.write_package.ensures.0)
+    let there = c.before.before.before.before.before.before.before.before in
+    never packages _ _ _ _ _ (omega arith) there.if-tag-ne5.false there.after-behind.ensures ((read there).lines _)
+    ((read there).short _) (sym c.in-NoRoom.is ∙ c.write_package.ensures.0)

@@ -6,15 +6,13 @@ use Rattle.lines.proofs.packages.write_package.Goals as goal
 
 pub write_accepted-requires : goal.write_accepted-requires
 write_accepted-requires c =
-    let answer = c.before.before.before in
-    rw answer.in-Accepted.is at answer.requires
+    rw c.in-Accepted.is at c.requires
 
 pub returns-in-Accepted : goal.returns-in-Accepted
 unfolding package_lines parcel_in
 returns-in-Accepted c =
-    let written = c.before.before.before in
-    rw (written.in-Accepted.is, counted) written.write_accepted.ensures
+    rw (c.in-Accepted.is, counted) c.write_accepted.ensures
 
 pub returns-in-Refused : goal.returns-in-Refused
 unfolding package_lines parcel_in
-returns-in-Refused c = let written = c.before.before.before in rw written.in-Refused.is written.write_row.ensures
+returns-in-Refused c = rw c.in-Refused.is c.write_row.ensures

@@ -27,17 +27,15 @@ parameters-preserved c =
     let l = c.parameters in
     let read = sym c.parameter_from.ensures ∙ ap (entry_in l.at) c.in-Found.is in
     let placed = parameter_placed a.octets.now (λ i. (c.shared_slice_known-1.given i).fits) read in
-    (omega arith, omega arith, c.show.auto.sheet ∙ l.invariant.2, goes_on _ _ _ l.invariant.3 c.if-octets-at.false c.if-count-ge64.false (omega arith) read (omega arith) c.show.ensures)
+    (omega arith, omega arith, c.show.auto.sheet ∙ l.invariant.2, goes_on _ _ _ l.invariant.3 c.if-octets-at.false (omega arith) (omega arith) read (omega arith) c.show.ensures)
 
 pub returns-then-octets-at : goal.returns-then-octets-at
 returns-then-octets-at c = ends _ _ _ c.parameters.invariant.3 c.if-octets-at.true
 
 pub returns-then-count-ge64 : goal.returns-then-count-ge64
-returns-then-count-ge64 c =
-    let l = c.parameters in
-    full _ _ _ l.invariant.3 c.if-octets-at.false (omega arith)
+returns-then-count-ge64 c = full _ _ _ c.parameters.invariant.3 c.if-octets-at.false (omega arith)
 
 pub returns-in-Refused : goal.returns-in-Refused
 returns-in-Refused c =
     let l = c.parameters in
-    stops _ _ _ l.invariant.3 c.if-octets-at.false c.if-count-ge64.false (search rules) (sym c.parameter_from.ensures ∙ ap (entry_in l.at) c.in-Refused.is)
+    stops _ _ _ l.invariant.3 c.if-octets-at.false (omega arith) (search rules) (sym c.parameter_from.ensures ∙ ap (entry_in l.at) c.in-Refused.is)

@@ -9,9 +9,8 @@ use Rattle.operation.proofs.summary.summary_from.Goals as goal
 
 pub shown-requires : goal.shown-requires
 shown-requires c =
-    let p = c.before.before.before.before in
-    let a = p.args in
-    omega (arith, counts.read_at a.octets.now a.specifier (length a.table.now) (λ i. (p.shared_slice_known-1.given i).fits) a.from (sym (ap answer_in c.in-Accepted.is) ∙ p.read_from.ensures.0))
+    let a = c.args in
+    omega (arith, counts.read_at a.octets.now a.specifier (length a.table.now) (λ i. (c.shared_slice_known-1.given i).fits) a.from (sym (ap answer_in c.in-Accepted.is) ∙ c.read_from.ensures.0))
 
 pub returns-in-Accepted : goal.returns-in-Accepted
 unfolding packed_reading

@@ -18,7 +18,7 @@ components-init c = (c.requires.0, omega arith, begins _ _)
 
 found : (c : lts.Past-After-known_told tie.the-claims reads.Pre reads.Post goal.the-invariant-components goal.the-decreases-components) → let s = c.args.octets.now in let at = c.components.at in
     contents s at (at + 1) (length s) ≡ accepted (span c.in-Found.start c.in-Found.end)
-found c = let a = c.before.before.before.before.before in holds a.args.octets.now a.requires.1 _ c.if-octets-at.false c.element_from.ensures c.in-Found.is
+found c = holds c.args.octets.now c.requires.1 _ c.if-octets-at.false c.element_from.ensures c.in-Found.is
 
 held : (c : lts.Past-After-known_told tie.the-claims reads.Pre reads.Post goal.the-invariant-components goal.the-decreases-components) → Held (c.components.at + 1) (length c.args.octets.now) (span c.in-Found.start c.in-Found.end)
 held c = inside c.args.octets.now (λ i. (c.shared_slice_known-1.given i).fits) _ (found c)
@@ -40,5 +40,4 @@ returns-then-octets-at c = sym (ends _ _ c.components.invariant.2 c.if-octets-at
 pub returns-in-Refused : goal.returns-in-Refused
 returns-in-Refused c =
     let l = c.components in
-    let a = c.before.before.before.before.before.before in
-    sym (stops _ _ l.invariant.2 c.if-octets-at.false (holds a.args.octets.now a.requires.1 _ c.if-octets-at.false c.element_from.ensures c.in-Refused.is))
+    sym (stops _ _ l.invariant.2 c.if-octets-at.false (holds c.args.octets.now c.requires.1 _ c.if-octets-at.false c.element_from.ensures c.in-Refused.is))

@@ -29,4 +29,4 @@ returns-else-end-start c = c.sequence_at.ensures ∙ rw (found c.before.before.b
 
 pub returns-in-Refused : goal.returns-in-Refused
 unfolding ids_at
-returns-in-Refused c = let a = c.before.before.before.before in simp (finds a.args.octets.now a.requires.1 0xC7 a.args.at c.wanted_from.ensures c.in-Refused.is)
+returns-in-Refused c = simp (finds c.args.octets.now c.requires.1 0xC7 c.args.at c.wanted_from.ensures c.in-Refused.is)

@@ -41,4 +41,4 @@ returns-else-end-octets c = c.ids_at.ensures ∙ rw (typed c.before.before.befor
 
 pub returns-in-Refused : goal.returns-in-Refused
 unfolding opening
-returns-in-Refused c = let a = c.before.before.before.before.before.before.before in rw (typed c.before.before.before, holds a.args.octets.now a.requires.1 0 a.requires.0 c.element_from.ensures c.in-Refused.is)
+returns-in-Refused c = rw (typed c.before.before.before, holds c.args.octets.now c.requires.1 0 c.requires.0 c.element_from.ensures c.in-Refused.is)

@@ -29,4 +29,4 @@ returns-else-end-octets c = simp (found c.before.before, eq-eqb _ _ c.if-end-oct
 
 pub returns-in-Refused : goal.returns-in-Refused
 unfolding sequence_at
-returns-in-Refused c = let a = c.before.before.before.before in simp (finds a.args.octets.now a.requires 0xE8 a.args.at c.wanted_from.ensures c.in-Refused.is)
+returns-in-Refused c = simp (finds c.args.octets.now c.requires 0xE8 c.args.at c.wanted_from.ensures c.in-Refused.is)

@@ -48,8 +48,7 @@ inside : (c : lts.Past-After-known_told tie.the-claims reads.Pre reads.Post) →
 inside c = opened _ (λ i. (c.shared_slice_known-1.given i).fits) (found c)
 
 pub read_sequence-requires : goal.read_sequence-requires
-read_sequence-requires c = let o = inside c.before.before.before.before in let e = c.before.before.before.before.before.before in
-    omega (arith, o.ids, o.sequence, o.first, e.if-octets-gt4096.false, e.if-places-lt8.false, e.if-summaries-lt8.false, e.if-table-lt-TABLES.false)
+read_sequence-requires c = let o = inside c.before.before.before.before in omega (arith, o.ids, o.sequence, o.first, c.if-octets-gt4096.false, c.if-places-lt8.false, c.if-summaries-lt8.false, c.if-table-lt-TABLES.false)
 
 pub returns-in-Found : goal.returns-in-Found
 returns-in-Found c = let r = c.read_sequence.ensures in rw (begun c.before.before.before.before.before.before.before.before.before.before.before.before.before, found c.before.before.before.before.before.before.before.before.before.before.before) r

@@ -26,25 +26,23 @@ many c = sym c.count_components.ensures ∙ ap count_in c.in-Of.is
 
 pub returns-then-count-eq0 : goal.returns-then-count-eq0
 unfolding few tables_after told outlined places_after summaries_after
-returns-then-count-eq0 c = let a = c.before.before.before.before.before.before.before.before in
-    rw (miscounted a.args.octets.now a.args.specifiers (record { ids = span a.args.ids a.args.behind; sequence = a.args.sequence; first = a.args.first }) (many c.before.before) (rw c.if-count-eq0.true refl)) (refl, refl, refl, refl)
+returns-then-count-eq0 c = rw (miscounted c.args.octets.now c.args.specifiers (record { ids = span c.args.ids c.args.behind; sequence = c.args.sequence; first = c.args.first }) (many c.before.before) (rw c.if-count-eq0.true refl)) (refl, refl, refl, refl)
 
 pub returns-then-count-gt8 : goal.returns-then-count-gt8
 unfolding few tables_after told outlined places_after summaries_after
-returns-then-count-gt8 c = let a = c.before.before.before.before.before.before.before.before.before in
-    rw (miscounted a.args.octets.now a.args.specifiers (record { ids = span a.args.ids a.args.behind; sequence = a.args.sequence; first = a.args.first }) (many c.before.before.before) (let n = c.in-Of.count in rw (le-leb 1 n (omega (arith, c.if-count-gt8.true)), lt-leb n 8 c.if-count-gt8.true) refl)) (refl, refl, refl, refl)
+returns-then-count-gt8 c = rw (miscounted c.args.octets.now c.args.specifiers (record { ids = span c.args.ids c.args.behind; sequence = c.args.sequence; first = c.args.first }) (many c.before.before.before) (let n = c.in-Of.count in rw (le-leb 1 n (omega (arith, c.if-count-gt8.true)), lt-leb n 8 c.if-count-gt8.true) refl)) (refl, refl, refl, refl)
 
 few_enough : (c : lts.Else2 tie.the-claims reads.Pre reads.Post) → few c.in-Of.count ≡ true
 unfolding few
-few_enough c = let n = c.in-Of.count in rw (le-leb 1 n (omega (arith, c.if-count-eq0.false)), le-leb n 8 c.if-count-gt8.false) refl
+few_enough c = let n = c.in-Of.count in rw (le-leb 1 n (omega (arith, c.if-count-eq0.false)), le-leb n 8 (omega arith)) refl
 
 pub read_rest-requires : goal.read_rest-requires
-read_rest-requires c = let a = c.before.before.before.before.before.before.before.before.before.before.before.before.before in let e = c.before.before.before.before.before in (
-  stands a.args.octets.now a.args.specifiers (record { ids = span a.args.ids a.args.behind; sequence = a.args.sequence; first = a.args.first }) (many c.before.before.before.before.before.before.before) a.requires.0,
-  a.requires.2,
-  omega (arith, e.if-count-gt8.false, a.requires.5),
-  omega (arith, e.if-count-gt8.false, a.requires.6),
-  omega (arith, e.if-count-gt8.false, a.requires.7),
+read_rest-requires c = (
+  stands c.args.octets.now c.args.specifiers (record { ids = span c.args.ids c.args.behind; sequence = c.args.sequence; first = c.args.first }) (many c.before.before.before.before.before.before.before) c.requires.0,
+  c.requires.2,
+  omega (arith, c.requires.5),
+  omega (arith, c.requires.6),
+  omega (arith, c.requires.7),
 )
 
 abbrev rest : (c : lts.After-read_rest tie.the-claims reads.Pre reads.Post) → Answer (List Placed)
@@ -52,12 +50,12 @@ rest c = let a = c.args in leftover (get_or a.octets.now 0 0) a.octets.now a.fir
 
 pub returns-in-Accepted : goal.returns-in-Accepted
 unfolding tables_after told outlined places_after summaries_after tables_rest places_rest summaries_rest
-returns-in-Accepted c = let a = c.before.before.before.before.before.before.before.before.before.before.before.before.before.before.before.before.before.before.before.before.before in let r = c.before.before.before.before.before.before.before.before in
+returns-in-Accepted c = let r = c.before.before.before.before.before.before.before.before in
     let (ys, e) = all_done (rest r) (sym r.read_rest.ensures.0 ∙ ap rest_in c.in-Accepted.is) in
     let n = many c.before.before.before.before.before.before.before.before.before.before.before.before.before.before.before in
-    let count = all_read a.args.octets.now a.args.specifiers (record { ids = span a.args.ids a.args.behind; sequence = a.args.sequence; first = a.args.first }) n e in
-    rw (read_whole a.args.octets.now a.args.specifiers (record { ids = span a.args.ids a.args.behind; sequence = a.args.sequence; first = a.args.first }) n (few_enough c.before.before.before.before.before.before.before.before.before.before.before.before.before), e) (
-      ap (λ n. accepted (record { kind = get_or a.args.octets.now 0 0; ids = a.args.ids; size = a.args.behind - a.args.ids; count = n })) (sym (length-map ys inside ∙ count)),
+    let count = all_read c.args.octets.now c.args.specifiers (record { ids = span c.args.ids c.args.behind; sequence = c.args.sequence; first = c.args.first }) n e in
+    rw (read_whole c.args.octets.now c.args.specifiers (record { ids = span c.args.ids c.args.behind; sequence = c.args.sequence; first = c.args.first }) n (few_enough c.before.before.before.before.before.before.before.before.before.before.before.before.before), e) (
+      ap (λ n. accepted (record { kind = get_or c.args.octets.now 0 0; ids = c.args.ids; size = c.args.behind - c.args.ids; count = n })) (sym (length-map ys inside ∙ count)),
       r.read_rest.ensures.1 ∙ ap (tables_rest _) e,
       r.read_rest.ensures.2 ∙ ap (places_rest _) e,
       r.read_rest.ensures.3 ∙ ap (summaries_rest _) e,
@@ -65,9 +63,9 @@ returns-in-Accepted c = let a = c.before.before.before.before.before.before.befo
 
 pub returns-in-Refused-read_rest : goal.returns-in-Refused-read_rest
 unfolding tables_after told outlined places_after summaries_after tables_rest places_rest summaries_rest
-returns-in-Refused-read_rest c = let a = c.before.before.before.before.before.before.before.before.before.before.before.before.before.before.before.before.before.before.before.before.before in let r = c.before.before.before.before.before.before.before.before in
+returns-in-Refused-read_rest c = let r = c.before.before.before.before.before.before.before.before in
     let e = not_done (rest r) (sym r.read_rest.ensures.0 ∙ ap rest_in c.in-Refused-read_rest.is) in
-    rw (read_whole a.args.octets.now a.args.specifiers (record { ids = span a.args.ids a.args.behind; sequence = a.args.sequence; first = a.args.first }) (many c.before.before.before.before.before.before.before.before.before.before.before.before.before.before.before) (few_enough c.before.before.before.before.before.before.before.before.before.before.before.before.before), e) (
+    rw (read_whole c.args.octets.now c.args.specifiers (record { ids = span c.args.ids c.args.behind; sequence = c.args.sequence; first = c.args.first }) (many c.before.before.before.before.before.before.before.before.before.before.before.before.before.before.before) (few_enough c.before.before.before.before.before.before.before.before.before.before.before.before.before), e) (
       refl,
       r.read_rest.ensures.1 ∙ ap (tables_rest _) e,
       r.read_rest.ensures.2 ∙ ap (places_rest _) e,
@@ -76,5 +74,4 @@ returns-in-Refused-read_rest c = let a = c.before.before.before.before.before.be
 
 pub returns-in-Refused : goal.returns-in-Refused
 unfolding tables_after told outlined places_after summaries_after
-returns-in-Refused c = let a = c.before.before.before.before.before.before.before in
-    rw (faulty a.args.octets.now a.args.specifiers (record { ids = span a.args.ids a.args.behind; sequence = a.args.sequence; first = a.args.first }) (sym c.count_components.ensures ∙ ap count_in c.in-Refused.is)) (refl, refl, refl, refl)
+returns-in-Refused c = rw (faulty c.args.octets.now c.args.specifiers (record { ids = span c.args.ids c.args.behind; sequence = c.args.sequence; first = c.args.first }) (sym c.count_components.ensures ∙ ap count_in c.in-Refused.is)) (refl, refl, refl, refl)

@@ -11,22 +11,15 @@ use Rattle.package.proofs.writing.put_components.Tie as tie
 
 pub components-init : goal.components-init
 components-init c =
-    let s = c.before.before.before.before.before in
-    (omega arith, begun _ _ _ _ _ s.requires.3)
+    (omega arith, begun _ _ _ _ _ c.requires.3)
 
 pub components-preserved : goal.components-preserved
 components-preserved c =
-    let d = c.before.before.before in
-    let turn = d.before.before.before.before.before.before.before.before in
-    let s = turn.before.before.before.before.before.before in
-    (search rules, (more _ _ _ _ _ turn.components.invariant.1 turn.components-test.true s.args.sets.now s.requires.2 d.ordered-outline.ensures d.compose_measured-octets.ensures).1)
+    (search rules, (more _ _ _ _ _ c.components.invariant.1 c.components-test.true c.args.sets.now c.requires.2 c.ordered-outline.ensures c.compose_measured-octets.ensures).1)
 
 pub overflow_add-at : goal.overflow_add-at
 overflow_add-at c =
-    let d = c.before.before.before in
-    let turn = d.before.before.before.before.before.before.before.before in
-    let s = turn.before.before.before.before.before.before in
-    omega (arith, (more _ _ _ _ _ turn.components.invariant.1 turn.components-test.true s.args.sets.now s.requires.2 d.ordered-outline.ensures d.compose_measured-octets.ensures).0)
+    omega (arith, (more _ _ _ _ _ c.components.invariant.1 c.components-test.true c.args.sets.now c.requires.2 c.ordered-outline.ensures c.compose_measured-octets.ensures).0)
 
 pub returns : goal.returns
 returns c = ended _ _ _ _ _ c.components.invariant.1 c.components-test.false

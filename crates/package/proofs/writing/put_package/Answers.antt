@@ -12,10 +12,6 @@ put_components-requires c =
 
 pub returns : goal.returns
 returns c =
-    let third = c.before.before.before.before.before.before.before in
-    let second = third.before.before.before.before in
-    let first = second.before.before.before.before in
-    let start = first.before.before.before.before.before.before.before in
-    packages _ _ _ _ _ _ start.requires.2 start.requires.0 start.requires.3
-    (then (then first.put_head-at.ensures (part second.put_ids.ensures.1) (search rules)) (part third.put_head.ensures) (search rules))
+    packages _ _ _ _ _ _ c.requires.2 c.requires.0 c.requires.3
+    (then (then c.put_head-at.ensures (part c.put_ids.ensures.1) (search rules)) (part c.put_head.ensures) (search rules))
     c.put_components.ensures

@@ -20,27 +20,23 @@ overflow_cast-sets c = omega (arith, few c.before)
 
 pub bounds-sets-index : goal.bounds-sets-index
 bounds-sets-index c =
-    let some = c.before.before.before.before.before.before.before.before in
-    omega (arith, some.if-components-index.false, some.requires)
+    omega (arith, c.if-components-index.false, c.requires)
 
 pub overflow_add-sum : goal.overflow_add-sum
 overflow_add-sum c =
-    let l = c.before.before.before.before.before.before.before.before.before.before in
-    omega (arith, few c.before.before.before, l.components.invariant, l.requires)
+    omega (arith, few c.before.before.before, c.components.invariant, c.requires)
 
 pub components-smaller : goal.components-smaller
 components-smaller c = omega (arith, c.if-components-index.false)
 
 pub components-preserved : goal.components-preserved
 components-preserved c =
-    let weighed = c.before.before.before in
-    let some = weighed.before.before.before.before.before.before in
-    let l = some.components in (
-      omega (arith, some.if-components-index.false),
+    let l = c.components in (
+      omega (arith, c.if-components-index.false),
       omega (arith, few c.before.before.before, l.invariant),
-      goes_on l.invariant.2 some.if-components-index.false (omega (arith, some.if-components-index.false, some.requires))
-          weighed.ordered-outline.ensures
-          (sym (ap measure_in c.in-Octets.is) ∙ weighed.weigh_sizes.ensures) c.first_wrong-wrong.ensures,
+      goes_on l.invariant.2 c.if-components-index.false (omega (arith, c.if-components-index.false, c.requires))
+          c.ordered-outline.ensures
+          (sym (ap measure_in c.in-Octets.is) ∙ c.weigh_sizes.ensures) c.first_wrong-wrong.ensures,
     )
 
 pub returns-then-wrong-lt8 : goal.returns-then-wrong-lt8
@@ -50,10 +46,8 @@ pub returns-else-wrong-lt8 : goal.returns-else-wrong-lt8
 returns-else-wrong-lt8 c = all_weighed c.components.invariant.2 c.if-components-index.true c.if-wrong-lt8.false
 
 pub returns-in-Refused : goal.returns-in-Refused
-returns-in-Refused c =
-    let weighed = c.before.before in
-    let some = weighed.before.before.before.before.before.before in (
-      refuses_all some.components.invariant.2 some.if-components-index.false (omega (arith, some.if-components-index.false, some.requires))
-          weighed.ordered-outline.ensures (sym (ap measure_in c.in-Refused.is) ∙ weighed.weigh_sizes.ensures),
-      tt,
-    )
+returns-in-Refused c = (
+  refuses_all c.components.invariant.2 c.if-components-index.false (omega (arith, c.if-components-index.false, c.requires))
+      c.ordered-outline.ensures (sym (ap measure_in c.in-Refused.is) ∙ c.weigh_sizes.ensures),
+  tt,
+)
