@@ -120,7 +120,8 @@ pub(crate) fn fault(names: &[u64], table: &[u16], count: usize, stop: usize) -> 
                 while key_at(table, first) != key {
                     first = first + 1;
                 }
-                if first < at {
+                let before = first < at;
+                if before {
                     break 'parameters Judged::Again(at);
                 }
             }

@@ -29,6 +29,9 @@ fn show(
     sheet[at + 4] = place as u16;
 }
 
+// The parameters that a component may have.
+const MOST: usize = 64;
+
 // The parameters from `from` to the end of the octets, each shown in the sheet.
 pub(crate) fn parameters_from(octets: &[u8], from: usize, sheet: &mut [u16]) -> Count
     requires { (from ≤ length octets.now) × (length octets.now ≤ 4096) × (table_size ≤ length sheet.old) }
@@ -41,7 +44,7 @@ pub(crate) fn parameters_from(octets: &[u8], from: usize, sheet: &mut [u16]) -> 
         if octets.len() <= at {
             break 'parameters Count::Of(count);
         }
-        if 64 <= count {
+        if MOST <= count {
             break 'parameters Count::Refused {
                 number: 10,
                 detail: at as u32,

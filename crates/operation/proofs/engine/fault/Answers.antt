@@ -23,8 +23,8 @@ loop-first-preserved c =
       sym (passed (one_more _ _) c.key_at.ensures c.loop-first-test.true) ∙ l.invariant.1,
     )
 
-pub parameters-preserved-else-first-at : goal.parameters-preserved-else-first-at
-parameters-preserved-else-first-at c =
+pub parameters-preserved-else-before : goal.parameters-preserved-else-before
+parameters-preserved-else-before c =
     let l = c.parameters in
     let h = sym c.has.ensures ∙ c.if-has.true in
     let e : c.loop-first.first ≡ l.at = omega arith in
@@ -47,11 +47,11 @@ returns-then-count-at c =
     let l = c.parameters in
     record { judged = λ row m. rw (l.invariant row m ∙ R.none_again row _ _ l.at c.if-count-at.true) }
 
-pub returns-then-first-at : goal.returns-then-first-at
-returns-then-first-at c =
+pub returns-then-before : goal.returns-then-before
+returns-then-before c =
     let l = c.parameters in
     let h = sym c.has.ensures ∙ c.if-has.true in
     record {
       judged = λ row m. rw (R.again row _ _ l.at c.if-count-at.false c.key_at-key.ensures (l.invariant row m) (sym (sym (m _) ∙ h)) (R.not_digits _ c.if-key.true)
-          (before _ _ c.if-first-at.true (sym c.loop-first-test.false ∙ c.key_at.ensures)));
+          (before _ _ c.if-before.true (sym c.loop-first-test.false ∙ c.key_at.ensures)));
     }

@@ -32,8 +32,8 @@ parameters-preserved c =
 pub returns-then-octets-at : goal.returns-then-octets-at
 returns-then-octets-at c = ends _ _ _ c.parameters.invariant.3 c.if-octets-at.true
 
-pub returns-then-count-ge64 : goal.returns-then-count-ge64
-returns-then-count-ge64 c = full _ _ _ c.parameters.invariant.3 c.if-octets-at.false (omega arith)
+pub returns-then-count-ge-MOST : goal.returns-then-count-ge-MOST
+returns-then-count-ge-MOST c = full _ _ _ c.parameters.invariant.3 c.if-octets-at.false (omega arith)
 
 pub returns-in-Refused : goal.returns-in-Refused
 returns-in-Refused c =
