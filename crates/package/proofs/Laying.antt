@@ -1,14 +1,12 @@
--- A package laid down: the steps of `put_components`, `put_package`, `put_weighed` and `write`.
+-- A package laid down: the steps of `put_rest`, `put_package`, `put_weighed` and `write`.
 use Prim.Native.Nat.{ℕ, ◌+◌, ◌-◌, ◌*◌, ◌/◌, ◌%◌, ◌<◌, ◌≤◌}
 use mathlib.Core.Path.{◌≡◌, refl, sym, ap, ◌∙◌}
 use mathlib.Core.Bool.{true}
 use mathlib.Core.List.{List, [], ◌∷◌, ◌++◌, map, flatten, append_assoc}
-use lib.ListN.{length, drop, get_or, length-append, length-drop, length-map, drop_of_length-le}
-use lib.Seq.{drop-cons, drop-drop}
+use lib.ListN.{length, drop, get_or, length-append, length-map}
 use borrow.Author.Tests.{eq-eqb, le-leb, lt-leb, lt-ltb}
 use borrow.Author.Rules.{part_to_end}
 use borrow.Rule.Slice.PartMut.{put_mid}
-use native.Mathlib.Numerals.{add-one}
 use native.Mathlib.Omega.{arith}
 use Rattle.element.specs.Octets.{Octets}
 use Rattle.element.specs.Answer.{Answer, accepted, refused, ◌>>=◌, ◌>>◌}
@@ -16,121 +14,77 @@ use Rattle.element.specs.Length.{shortest, field_size}
 use Rattle.element.specs.Output.{written, output_after}
 use Rattle.element.proofs.Reading.{less, same}
 use Rattle.element.proofs.LengthLaws as L
-use Rattle.element.proofs.FieldLaws.{put_length}
 use Rattle.component.specs.Table.{table_size}
 use Rattle.component.specs.Composed.{element}
-use Rattle.component.specs.Composing.{Sizes}
-use Rattle.component.specs.declared.Id as D
-use Rattle.component.specs.declared.Code as E
-use Rattle.component.specs.inner.Emitting.{Put, laid as Laid-by}
+use Rattle.component.specs.Composing.{composing}
+use Rattle.component.specs.inner.Emitting.{Put}
 use Rattle.component.proofs.Taken.{taken}
-use Rattle.component.proofs.Putting.{Left, begins, ends, goes_on}
-use Rattle.component.proofs.Laid.{lays}
 use Rattle.operation.specs.declared.summary.Outline as O
 use Rattle.operation.specs.Model.{written_as}
-use Rattle.operation.specs.Writing.{writing, weighing_sizes}
 use Rattle.package.specs.Types.{package_type, id_size}
 use Rattle.package.specs.Caller.{Part, order}
 use Rattle.package.specs.Reading.{few, tables_size}
 use Rattle.package.specs.Told.{part_in}
 use Rattle.package.specs.Writing.{order_of, write_each, carried_as, package_octets, laid_down, package_writing}
-use Rattle.package.specs.inner.Weighed.{outline_for, sequence, weighed, packaged, lodged, left_at, Noted, Outcome, Fits}
-use Rattle.package.proofs.Fronting.{behind, front, part, goes_behind}
-use Rattle.package.proofs.Weighing.{weighs, measures, composes, split, at_most}
+use Rattle.package.specs.inner.Weighed.{outline_for, sequence, weighed, packaged, lodged, Outcome, Fits}
+use Rattle.package.proofs.Fronting.{behind, front, goes_behind}
+use Rattle.package.proofs.Weighing.{composes, split, at_most}
 
--- ---- the steps of `put_components`
-module _ (kind : ℕ) (id : D.Id) (code : E.Code) (count : ℕ) (t : List ℕ) (source : Octets) where
-  -- a component that was weighed is put down as it is written
-  as_written : {s : Octets} → writing kind id code count t source 4096 ≡ accepted s → {z : Sizes} → weighing_sizes kind id code count t source ≡ accepted z →
-      {room : ℕ} → length s ≤ room → Laid-by kind id code count t source z.set room ≡ s
+-- ---- the steps of `put_rest`
+pub none_put : (xs : List ℕ) (sp : ℕ) (t : List ℕ) (source out : Octets) → length xs ≡ 0 → out ≡ output_after out (sequence (map part_in xs) sp t source)
+unfolding sequence write_each flatten output_after
+none_put [] sp t source out e = refl
+none_put (x ∷ xs) sp t source out e = absurd (omega arith)
+
+module _ (sp : ℕ) (t : List ℕ) (source out : Octets) where
+  -- a component that can be composed, and those behind it
+  pub record First (xs : List ℕ) (o : O.Outline) : Type 0 where
+    pub head : Octets
+    pub tail : Octets
+    pub first : composing o.kind o.id o.code o.all t source (length out) ≡ accepted head
+    pub rest : sequence (map part_in (behind 1 xs)) (sp / 256) (behind table_size t) source ≡ accepted tail
+    pub both : sequence (map part_in xs) sp t source ≡ accepted (head ++ tail)
+    pub room : length head + length tail ≤ length out
+
+  pub found : (xs : List ℕ) → (length xs ≡ 0 → ⊥) → {o : O.Outline} → o ≡ outline_for (part_in (get_or xs 0 0)) (sp % 256) →
+      Fits (sequence (map part_in xs) sp t source) (length out) → First xs o
   unfolding written
-  as_written {s} e {z} f {room} h =
-      let w = weighs kind id code count t source in
-      let l : length s ≡ z.whole = cc in
-      let c = composes kind id code count t source e h in
-      let p = lays kind id code count t source (measures kind id code count t source f) {room = room} (omega arith) in
-      cc
-
-module _ (xs : List ℕ) (sp : ℕ) (t : List ℕ) (source out : Octets) where
-  -- behind `i` components, whose octets go up to `at`
-  pub record Laying (i left at : ℕ) (mid : Octets) : Type 0 where
-    pub all : Octets
-    pub rest : Octets
-    pub whole : sequence (map part_in xs) sp t source ≡ accepted all
-    pub others : sequence (map part_in (drop i xs)) left (drop (table_size * i) t) source ≡ accepted rest
-    pub given : left ≡ left_at i sp
-    pub put : Left all 0 out rest at mid
-    pub room : length all ≤ length out
-    pub long : length mid ≡ length out
-
-  pub begun : Fits (sequence (map part_in xs) sp t source) (length out) → Laying 0 sp 0 out
-  unfolding written left_at
-  begun (n, f, few) =
-      let (a, g, p) = taken (sequence (map part_in xs) sp t source) f in
+  found [] some e f = absurd (some refl)
+  found (x ∷ xs) some e (n, f, few) =
+      let (a, g, p) = taken (sequence (part_in x ∷ map part_in xs) sp t source) f in
+      let (h, i, j) = taken (written_as (order_of (part_in x) (sp % 256) t source) 4096) (sym (split (part_in x) (map part_in xs) sp t source) ∙ g) in
+      let (s, k, l) = taken (sequence (map part_in xs) (sp / 256) (drop table_size t) source) j in
+      let m : h ++ s ≡ a = cc in
       let q : length a ≡ n = cc in
-      record { all = a; rest = a; whole = g; others = g; given = refl; put = begins; room = omega arith; long = refl }
+      let room : length h + length s ≤ length out = omega (arith, ap length m, length-append h s) in
+      record {
+        head = h;
+        tail = s;
+        first = rw e (composes _ _ _ _ _ _ i (omega arith));
+        rest = rw (part_to_end (x ∷ xs) 1, part_to_end t table_size) k;
+        both = rw m g;
+        room = room;
+      }
 
-  module _ {i left at : ℕ} {mid : Octets} (l : Laying i left at mid) where
-    pub within : at ≤ length mid
-    within = omega (arith, l.put.place, l.room, l.long)
+  -- once it is composed
+  module _ {xs : List ℕ} {o : O.Outline} (f : First xs o) where
+    pub never : {n d : ℕ} → refused n d ≡ written (composing o.kind o.id o.code o.all t source (length out)) → ⊥
+    unfolding written
+    never e = let g = f.first in let z : ◌≡◌ {A = ℕ} 0 1 = cc in omega arith
 
-    pub ended : length xs ≤ i → mid ≡ output_after out (sequence (map part_in xs) sp t source)
-    unfolding sequence write_each flatten
-    ended h =
-        let none : drop i xs ≡ [] = drop_of_length-le xs {i = i} h in
-        let o = rw none at l.others in
-        let r : l.rest ≡ [] = cc in
-        rw l.whole ((ends (rw r at l.put)).octets ∙ front l.all out)
+    pub begun : {n : ℕ} {after : Octets} → accepted n ≡ written (composing o.kind o.id o.code o.all t source (length out)) →
+        after ≡ output_after out (composing o.kind o.id o.code o.all t source (length out)) → Put f.head 0 out n after
+    unfolding written
+    begun {n} e g =
+        let k = f.first in
+        let h : n ≡ length f.head = cc in
+        record { place = omega arith; octets = rw k at g ∙ sym (front f.head out) }
 
-    module _ (h : i < length xs) (sets : List ℕ) (noted : Noted xs sp t source (length xs) sets)
-        {o : O.Outline} (told : o ≡ outline_for (part_in (get_or xs i 0)) (left % 256)) where
-      record Next : Type 0 where
-        head : Octets
-        tail : Octets
-        is : Laid-by o.kind o.id o.code o.all (behind (table_size * i) t) source (get_or sets i 0) (length (behind at mid)) ≡ head
-        others : sequence (map part_in (drop (i + 1) xs)) (left / 256) (drop (table_size * (i + 1)) t) source ≡ accepted tail
-        both : head ++ tail ≡ l.rest
-
-      next : Next
-      next =
-          let x = get_or xs i 0 in
-          let e : drop i xs ≡ x ∷ drop (i + 1) xs = rw (add-one, drop-cons xs i 0) in
-          let (first, f, g) = taken (written_as (order_of (part_in x) (left % 256) (drop (table_size * i) t) source) 4096)
-          (sym (split (part_in x) (map part_in (drop (i + 1) xs)) left (drop (table_size * i) t) source) ∙ rw e at l.others) in
-          let (tail, k, m) = taken (sequence (map part_in (drop (i + 1) xs)) (left / 256) (drop table_size (drop (table_size * i) t)) source) g in
-          let (z, w, s) = noted i h in
-          let both : first ++ tail ≡ l.rest = cc in
-          let room : length first ≤ length (behind at mid) =
-          rw (part_to_end mid at, length-drop at mid) (omega (arith, simp length-append at (ap length both), l.put.place, l.room, l.long)) in
-          let size : table_size * i + table_size ≡ table_size * (i + 1) = omega arith in
-          record {
-            head = first;
-            tail = tail;
-            is = rw (s, told, part_to_end t (table_size * i)) (as_written _ _ _ _ _ _ f (rw (← l.given) at w) room);
-            others = rw (← size, ← drop-drop table_size (table_size * i) t) k;
-            both = both;
-          }
-
-      pub more : {n : ℕ} {after : Octets} →
-          Put (Laid-by o.kind o.id o.code o.all (behind (table_size * i) t) source (get_or sets i 0) (length (behind at mid))) 0 (behind at mid) n after →
-          (at + n ≤ length mid) × Laying (i + 1) (left / 256) (at + n) (put_mid at (length mid - at) mid after)
-      unfolding left_at
-      more {n} p =
-          let q = rw next.is at (part {out = mid} {a = at} p) in
-          let o = goes_on next.head next.tail (rw (← next.both) at l.put) q within in
-          let room : at + n ≤ length mid = omega (arith, o.place, l.room, l.long) in (
-            room,
-            record {
-              all = l.all;
-              rest = next.tail;
-              whole = l.whole;
-              others = next.others;
-              given = rw (add-one, ← l.given) refl;
-              put = o;
-              room = l.room;
-              long = ap length q.octets ∙ put_length next.head at mid (omega (arith, q.place)) ∙ l.long;
-            },
-          )
+    -- and the others behind it
+    pub ended : {n : ℕ} {after last : Octets} → Put f.head 0 out n after →
+        last ≡ output_after (behind n after) (sequence (map part_in (behind 1 xs)) (sp / 256) (behind table_size t) source) →
+        put_mid n (length after - n) after last ≡ output_after out (sequence (map part_in xs) sp t source)
+    ended b e = rw f.both (goes_behind f.tail b (rw f.rest at e))
 
 -- ---- the package
 one_octet : (n : ℕ) → n < 128 → length (shortest n) ≡ 1
@@ -201,22 +155,22 @@ module _ (cs : List Part) (sp : ℕ) (t : List ℕ) (source : Octets) (kind : �
   abbrev Lodged : (answer : Answer ℕ) (after : Octets) → Type 0
   Lodged = Outcome out (lodged cs sp t source kind ids (length out))
 
-  listing : (os : List Octets) × (write_each cs sp t source ≡ accepted os) × (length (package_octets kind ids os) ≡ whole)
-  listing =
+  lays : (os : List Octets) × (write_each cs sp t source ≡ accepted os) × (length (package_octets kind ids os) ≡ whole)
+  lays =
       let (os, h, k) = listed cs sp t source e in
       (os, h, omega (arith, package_size kind ids os k z.few z.contents, z.all))
 
   pub too_long : 4096 < whole → Lodged (refused 15 whole) out
   unfolding lodged laid_down written output_after
-  too_long h = let (os, f, g) = listing in rw (f, g, lt-leb whole 4096) (refl, refl)
+  too_long h = let (os, f, g) = lays in rw (f, g, lt-leb whole 4096) (refl, refl)
 
   pub no_room : whole ≤ 4096 → length out < whole → Lodged (refused 17 whole) out
   unfolding lodged laid_down written output_after
-  no_room h k = let (os, f, g) = listing in rw (f, g, le-leb whole 4096, lt-leb whole (length out)) (refl, refl)
+  no_room h k = let (os, f, g) = lays in rw (f, g, le-leb whole 4096, lt-leb whole (length out)) (refl, refl)
 
   pub laid : whole ≤ 4096 → whole ≤ length out → {after : Octets} → after ≡ output_after out (packaged cs sp t source kind ids) → Lodged (accepted whole) after
   unfolding lodged laid_down packaged written
-  laid h k l = let (os, f, g) = listing in rw (f, g, le-leb whole 4096, le-leb whole (length out)) (ap accepted (sym g), rw f at l)
+  laid h k l = let (os, f, g) = lays in rw (f, g, le-leb whole 4096, le-leb whole (length out)) (ap accepted (sym g), rw f at l)
 
 -- ---- the writer
 id_size_lem : (kind : ℕ) → id_size kind ≤ 8

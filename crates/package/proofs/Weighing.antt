@@ -1,16 +1,13 @@
--- The octets that components take: what is weighed of each, and the steps of `weigh_all`.
+-- The octets that components take: what is weighed of each, and the steps of `weigh_rest`.
 use Prim.Native.Nat.{ℕ, ◌+◌, ◌*◌, ◌/◌, ◌%◌, ◌<◌, ◌≤◌}
 use mathlib.Core.Path.{◌≡◌, refl, sym, ap, ◌∙◌}
 use mathlib.Core.Bool.{Bool, true, false}
 use mathlib.Core.List.{List, [], ◌∷◌, ◌++◌, map, flatten}
-use lib.ListN.{length, drop, get_or, set, length-append, length-drop, length-set}
-use lib.Seq.{drop-drop, get_or-drop, get_or-set_same, get_or-set_other}
+use lib.ListN.{length, drop, get_or, length-append}
 use lib.Dec.{ltb, leb, eqb}
-use borrow.Author.Count.{below_none, below_more}
 use borrow.Author.Tests.{eq-eqb, ne_eqb, le-leb, lt-leb}
 use borrow.Author.Rules.{part_to_end}
 use native.Mathlib.Nat.{add-zero, add_assoc}
-use native.Mathlib.Numerals.{add-one}
 use native.Mathlib.Omega.{arith}
 use Rattle.element.specs.Octets.{Octets, if}
 use Rattle.element.specs.Answer.{Answer, accepted, refused, ◌>>=◌, ◌>>◌, check}
@@ -18,27 +15,26 @@ use Rattle.element.specs.Output.{written}
 use Rattle.element.proofs.Reading.{less, same}
 use Rattle.component.specs.declared.Id as D
 use Rattle.component.specs.declared.Code as E
-use Rattle.component.specs.Grammar.{Parameter}
 use Rattle.component.specs.Table.{table_size, component_of}
 use Rattle.component.specs.Composed.{composed}
 use Rattle.component.specs.Needed.{octets_needed}
-use Rattle.component.specs.Composing.{entries_of, Sizes, sizes_of, octets_of, composing, measured}
+use Rattle.component.specs.Composing.{entries_of, octets_of, composing}
 use Rattle.component.proofs.Taken.{taken, passed}
 use Rattle.component.proofs.Measuring.{ready}
-use Rattle.component.proofs.Composition.{whole, short_set}
+use Rattle.component.proofs.Composition.{whole}
 use Rattle.operation.specs.declared.summary.Outline as O
 use Rattle.operation.specs.Judge.{judge}
 use Rattle.operation.specs.Finding.{row_of}
 use Rattle.operation.specs.Items.{items_of}
 use Rattle.operation.specs.Codes.{operation_of}
-use Rattle.operation.specs.Writing.{writing, weighing_sizes}
+use Rattle.operation.specs.Writing.{writing, weighing}
 use Rattle.operation.specs.Model.{written_as}
 use Rattle.operation.proofs.Counts.{written_short}
 use Rattle.package.specs.Caller.{Part}
 use Rattle.package.specs.Reading.{carries}
 use Rattle.package.specs.Told.{part_in}
 use Rattle.package.specs.Writing.{code_for, order_of, write_each, carried_as}
-use Rattle.package.specs.inner.Weighed.{outline_for, sequence, weighed, left_at, Noted}
+use Rattle.package.specs.inner.Weighed.{outline_for, sequence, weighed}
 use Rattle.package.proofs.Fronting.{behind}
 
 -- ---- what the component writer is handed
@@ -56,53 +52,35 @@ module _ (x given : ℕ) {o : O.Outline}
   handed k = simp (ne_eqb _ 0xEA (λ j. k (e.0 ∙ j))) (rw (← e.0, ← e.1, ← e.2, ← e.3))
 
 -- ---- one component
-step_by_step : {A B C : Type 0} (a : Answer A) (f : A → Answer B) (g : B → Answer C) → ((a >>= f) >>= g) ≡ (a >>= λ x. f x >>= g)
-step_by_step (accepted x) f g = refl
-step_by_step (refused n d) f g = refl
-
-after : {A B : Type 0} (a : Answer A) {f g : A → Answer B} → ((x : A) → a ≡ accepted x → f x ≡ g x) → (a >>= f) ≡ (a >>= g)
-after (accepted x) e = e x refl
-after (refused n d) e = refl
+-- what is told of an answer is told of its last step
+pub each : {A B C : Type 0} (a : Answer A) (f : A → Answer B) (g : A → Answer C) (h : B → C) →
+    ((x : A) → a ≡ accepted x → (f x >>= λ y. accepted (h y)) ≡ g x) → ((a >>= f) >>= λ y. accepted (h y)) ≡ (a >>= g)
+each (accepted x) f g h k = k x refl
+each (refused n d) f g h k = refl
 
 module _ (kind : ℕ) (id : D.Id) (code : E.Code) (count : ℕ) (t : List ℕ) (source : Octets) where
-  -- the parameters with which something was done once the row had accepted them
-  listed : {A : Type 0} {y : A} (work : List Parameter → Answer A) →
-      (entries_of kind id count t source >>= λ ps. row_of kind code.first 0 >>= λ row. judge row (items_of 0 ps) >>= λ _. work ps) ≡ accepted y →
-      (ps : List Parameter) × (entries_of kind id count t source ≡ accepted ps) × (work ps ≡ accepted y)
-  listed work e =
-      let (ps, f, g) = taken (entries_of kind id count t source) e in
-      let (row, _, h) = taken (row_of kind code.first 0) g in
-      let (_, _, i) = taken (judge row (items_of 0 ps)) h in
-      (ps, f, i)
-
   -- what is weighed is counted of what is written into 4,096 octets
-  pub weighs : written (writing kind id code count t source 4096) ≡ (weighing_sizes kind id code count t source >>= λ z. accepted z.whole)
-  unfolding weighing_sizes writing octets_of written
+  pub weighs : written (writing kind id code count t source 4096) ≡ weighing kind id code count t source
+  unfolding weighing writing octets_of written
   weighs =
-      simp step_by_step (after (entries_of kind id count t source) λ ps e.
+      each (entries_of kind id count t source) _ _ length λ ps e.
+      each (row_of kind code.first 0) _ _ length λ row _.
+      each (judge row (items_of 0 ps)) _ _ length λ _ _.
       let r = ready kind id count t source e in
-      simp (le-leb (octets_needed kind id.count ps) 4096 r.short, whole kind id code ps r.allowed r.short))
+      rw (le-leb (octets_needed kind id.count ps) 4096 r.short) (ap accepted (whole kind id code ps r.allowed r.short))
 
-  pub few_octets : {z : Sizes} → accepted z ≡ weighing_sizes kind id code count t source → (z.whole ≤ 4096) × (z.set ≤ 4096)
-  unfolding weighing_sizes
-  few_octets {z} e =
-      let (ps, f, g) = listed (λ ps. accepted (sizes_of kind id.count ps)) (sym e) in
-      let s = (ready kind id count t source f).short in
-      let k : sizes_of kind id.count ps ≡ z = cc in
-      rw (← k) (s, short_set kind id.count ps s)
-
-  -- as it was measured
-  pub measures : {z : Sizes} → weighing_sizes kind id code count t source ≡ accepted z → measured kind id count t source ≡ accepted z
-  unfolding weighing_sizes measured
-  measures e = let (ps, f, g) = listed (λ ps. accepted (sizes_of kind id.count ps)) e in rw f g
+  pub few_octets : {n : ℕ} → accepted n ≡ weighing kind id code count t source → n ≤ 4096
+  few_octets e = written_short kind id code count t source 4096 (e ∙ sym weighs)
 
   -- and composed as well, where there is room
   pub composes : {s : Octets} → writing kind id code count t source 4096 ≡ accepted s → {room : ℕ} → length s ≤ room →
       composing kind id code count t source room ≡ accepted s
   unfolding writing composing octets_of
   composes {s} e {room} h =
-      let (ps, f, g) = listed (λ ps. octets_of kind id code ps 4096) e in
-      let (_, k) = passed (leb (octets_needed kind id.count ps) 4096) 17 (octets_needed kind id.count ps) g in
+      let (ps, f, g) = taken (entries_of kind id count t source) e in
+      let (row, _, i) = taken (row_of kind code.first 0) g in
+      let (_, _, j) = taken (judge row (items_of 0 ps)) i in
+      let (_, k) = passed (leb (octets_needed kind id.count ps) 4096) 17 (octets_needed kind id.count ps) j in
       let r = ready kind id count t source f in
       let l : composed (component_of kind id code ps) ≡ s = cc in
       rw (f, le-leb (octets_needed kind id.count ps) room (omega (arith, ap length l, whole kind id code ps r.allowed r.short))) k
@@ -112,7 +90,10 @@ module _ (kind : ℕ) (id : D.Id) (code : E.Code) (count : ℕ) (t : List ℕ) (
 pub split : (c : Part) (cs : List Part) (sp : ℕ) (t : List ℕ) (source : Octets) → sequence (c ∷ cs) sp t source ≡
     (written_as (order_of c (sp % 256) t source) 4096 >>= λ o. sequence cs (sp / 256) (drop table_size t) source >>= λ s. accepted (o ++ s))
 unfolding sequence write_each flatten
-split c cs sp t source = simp step_by_step
+split c cs sp t source =
+    each (written_as (order_of c (sp % 256) t source) 4096) _ _ flatten λ o _.
+    each (write_each cs (sp / 256) (drop table_size t) source) _ _ flatten (λ os _. refl)
+    ∙ sym (each (write_each cs (sp / 256) (drop table_size t) source) _ _ (λ s. o ++ s) (λ os _. refl))
 
 -- each has at most 4,096 octets
 pub at_most : (cs : List Part) (sp : ℕ) (t : List ℕ) (source : Octets) {s : Octets} → sequence cs sp t source ≡ accepted s → length s ≤ 4096 * length cs
@@ -140,7 +121,7 @@ handed_carries : (packet kind code given : ℕ) → carries packet kind (if (eqb
 unfolding carries operation_of
 handed_carries packet kind code given = same (λ x. carries packet kind x given ≡ carries packet kind code given) {x = kind} {y = 0xEA} {a = given} (λ e. rw e refl) (λ _. refl)
 
--- ---- the steps of `weigh_all`
+-- ---- the steps of `weigh_rest`
 module _ (sp : ℕ) (t : List ℕ) (source : Octets) (packet i wrong sum : ℕ) where
   pub none_wrong : (xs : List ℕ) → length xs ≡ 0 → wrong < 8 → refused 24 wrong ≡ weighed (map part_in xs) sp t source packet i wrong sum
   unfolding weighed sequence write_each
@@ -155,7 +136,7 @@ module _ (sp : ℕ) (t : List ℕ) (source : Octets) (packet i wrong sum : ℕ) 
   step : (xs : List ℕ) → (length xs ≡ 0 → ⊥) → i < 8 → {o : O.Outline} → o ≡ outline_for (part_in (get_or xs 0 0)) (sp % 256) →
       {w : ℕ} → w ≡ if (ltb wrong 8) wrong (if (carries packet o.kind o.code.first (sp % 256)) 8 i) →
       weighed (map part_in xs) sp t source packet i wrong sum ≡
-      ((weighing_sizes o.kind o.id o.code o.all t source >>= λ z. accepted z.whole) >>= λ n. weighed (map part_in (behind 1 xs)) (sp / 256) (behind table_size t) source packet (i + 1) w (sum + n))
+      (weighing o.kind o.id o.code o.all t source >>= λ n. weighed (map part_in (behind 1 xs)) (sp / 256) (behind table_size t) source packet (i + 1) w (sum + n))
   unfolding code_for weighed written carried_as
   step [] some h e f = absurd (some refl)
   step (x ∷ xs) some h {o} e {w} f =
@@ -170,60 +151,11 @@ module _ (sp : ℕ) (t : List ℕ) (source : Octets) (packet i wrong sum : ℕ) 
       go (refused n d) b = refl
 
   module _ (xs : List ℕ) (some : length xs ≡ 0 → ⊥) (few : i < 8) {o : O.Outline} (told : o ≡ outline_for (part_in (get_or xs 0 0)) (sp % 256)) where
-    pub first_refused : {n d : ℕ} → refused n d ≡ weighing_sizes o.kind o.id o.code o.all t source → refused n d ≡ weighed (map part_in xs) sp t source packet i wrong sum
+    pub first_refused : {n d : ℕ} → refused n d ≡ weighing o.kind o.id o.code o.all t source → refused n d ≡ weighed (map part_in xs) sp t source packet i wrong sum
     first_refused e = sym (step xs some few told refl ∙ rw (← e))
 
-    pub first_weighed : {z : Sizes} {w : ℕ} {a : Answer ℕ} → accepted z ≡ weighing_sizes o.kind o.id o.code o.all t source →
+    pub first_weighed : {n w : ℕ} {a : Answer ℕ} → accepted n ≡ weighing o.kind o.id o.code o.all t source →
         w ≡ if (ltb wrong 8) wrong (if (carries packet o.kind o.code.first (sp % 256)) 8 i) →
-        a ≡ weighed (map part_in (behind 1 xs)) (sp / 256) (behind table_size t) source packet (i + 1) w (sum + z.whole) →
+        a ≡ weighed (map part_in (behind 1 xs)) (sp / 256) (behind table_size t) source packet (i + 1) w (sum + n) →
         a ≡ weighed (map part_in xs) sp t source packet i wrong sum
     first_weighed e f g = g ∙ sym (step xs some few told f ∙ rw (← e))
-
--- behind `i` components: what is left to be weighed is what is weighed of all, and those components are noted
-pub record Going (xs : List ℕ) (sp : ℕ) (t : List ℕ) (source : Octets) (packet i left wrong sum : ℕ) (sets : List ℕ) : Type 0 where
-  pub rest : weighed (map part_in (drop i xs)) left (drop (table_size * i) t) source packet i wrong sum ≡ weighed (map part_in xs) sp t source packet 0 8 0
-  pub given : left ≡ left_at i sp
-  pub long : length sets ≡ 8
-  pub noted : Noted xs sp t source i sets
-
-module _ {xs : List ℕ} {sp : ℕ} {t : List ℕ} {source : Octets} {packet : ℕ} {sets : List ℕ} where
-  pub begun : length sets ≡ 8 → Going xs sp t source packet 0 sp 8 0 sets
-  unfolding left_at
-  begun e = record { rest = refl; given = refl; long = e; noted = below_none _ }
-
-  module _ {i left wrong sum : ℕ} (g : Going xs sp t source packet i left wrong sum sets) where
-    pub all_wrong : length xs ≤ i → wrong < 8 → refused 24 wrong ≡ weighed (map part_in xs) sp t source packet 0 8 0
-    all_wrong h k = none_wrong left (drop (table_size * i) t) source packet i wrong sum (drop i xs) (omega (arith, length-drop i xs)) k ∙ g.rest
-
-    pub all_weighed : length xs ≤ i → 8 ≤ wrong → (accepted sum ≡ weighed (map part_in xs) sp t source packet 0 8 0) × Noted xs sp t source (length xs) sets
-    all_weighed h k =
-        (none_left left (drop (table_size * i) t) source packet i wrong sum (drop i xs) (omega (arith, length-drop i xs)) k ∙ g.rest, λ j l. g.noted j (omega arith))
-
-    module _ (h : i < length xs) (few : i < 8) {o : O.Outline} (told : o ≡ outline_for (part_in (get_or xs i 0)) (left % 256)) where
-      some : length (drop i xs) ≡ 0 → ⊥
-      some e = omega (arith, e, length-drop i xs)
-
-      first : o ≡ outline_for (part_in (get_or (drop i xs) 0 0)) (left % 256)
-      first = rw (get_or-drop i xs 0 0, add-zero) told
-
-      pub refuses_all : {n d : ℕ} → refused n d ≡ weighing_sizes o.kind o.id o.code o.all (behind (table_size * i) t) source →
-          refused n d ≡ weighed (map part_in xs) sp t source packet 0 8 0
-      refuses_all e =
-          first_refused left (drop (table_size * i) t) source packet i wrong sum (drop i xs) some few first (rw (part_to_end t (table_size * i)) at e) ∙ g.rest
-
-      pub goes_on : {z : Sizes} → accepted z ≡ weighing_sizes o.kind o.id o.code o.all (behind (table_size * i) t) source →
-          {w : ℕ} → w ≡ if (ltb wrong 8) wrong (if (carries packet o.kind o.code.first (left % 256)) 8 i) →
-          Going xs sp t source packet (i + 1) (left / 256) w (sum + z.whole) (set sets i z.set)
-      unfolding left_at
-      goes_on {z} e f =
-          let w = rw (part_to_end t (table_size * i)) at e in
-          let u = first_weighed left (drop (table_size * i) t) source packet i wrong sum (drop i xs) some few first w f refl in
-          let m : table_size * i + table_size ≡ table_size * (i + 1) = omega arith in
-          record {
-            rest = rw (part_to_end (drop i xs) 1, part_to_end (drop (table_size * i) t) table_size, drop-drop 1 i xs, drop-drop table_size (table_size * i) t, m) at u ∙ g.rest;
-            given = rw add-one (ap (λ n. n / 256) g.given);
-            long = rw length-set g.long;
-            noted = below_more _ i
-                (λ j l. let (y, a, b) = g.noted j l in (y, a, get_or-set_other sets i j z.set 0 (λ q. omega arith) ∙ b))
-                (z, rw (← g.given) (sym (rw told at w)), get_or-set_same sets i z.set 0 (omega (arith, g.long)));
-          }

@@ -3,10 +3,12 @@
 
 mod carriage;
 mod layout;
+mod measured;
 mod reading;
 mod writing;
 
 pub use carriage::carried_by;
+pub use measured::write_measured;
 pub use reading::{read, read_into};
 pub use writing::write;
 

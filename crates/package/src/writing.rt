@@ -13,26 +13,16 @@ ghost use Rattle.package.specs.Reading.{carries};
 ghost use Rattle.package.specs.Caller.{order};
 ghost use Rattle.package.specs.Told.{part_in};
 ghost use Rattle.package.specs.Model.{writer};
-ghost use Rattle.package.specs.inner.Weighed.{
-  outline_for,
-  sequence,
-  weighed,
-  packaged,
-  lodged,
-  Noted,
-  AllNoted,
-  Outcome,
-  Fits,
-};
+ghost use Rattle.package.specs.inner.Weighed.{outline_for, sequence, weighed, packaged, lodged, Outcome, Fits};
 
 use super::TABLES;
 use super::carriage::is_carried;
 use super::layout::{id_size, is_package};
-use component::{Code, Count, Measured, TABLE};
+use component::{Code, Count, TABLE};
 use operation::{Outline, Writing};
 
 // What a summary orders of the component writer: a RESULT is judged by its specifier of the eight.
-fn ordered(summary: u64, given: u8) -> Outline
+pub(crate) fn ordered(summary: u64, given: u8) -> Outline
     ensures { result ≡ outline_for (part_in summary) given }
 {
     let outline = operation::outline_of(summary);
@@ -56,7 +46,13 @@ fn ordered(summary: u64, given: u8) -> Outline
 }
 
 // The index of the first component that the package does not carry, 8 where there is none.
-fn first_wrong(packet: u8, outline: Outline, given: u8, index: usize, wrong: usize) -> usize
+pub(crate) fn first_wrong(
+    packet: u8,
+    outline: Outline,
+    given: u8,
+    index: usize,
+    wrong: usize,
+) -> usize
     ensures { result ≡ if (ltb wrong 8) wrong
         (if (carries packet outline.kind outline.code.first given) 8 index) }
 {
@@ -70,67 +66,55 @@ fn first_wrong(packet: u8, outline: Outline, given: u8, index: usize, wrong: usi
     index
 }
 
-// The octets that the components take. What the others are refused for comes before 24, so the index of a component that
-// is not carried goes along as `wrong`, else 8. The octets of each one's parameters are noted in `sets`: what puts the
-// components down need not measure them again.
-fn weigh_all(
+// The octets that the components take, from component `index` on, where those before them take `sum`. What the others
+// are refused for comes before 24, so the index of a component that is not carried goes along as `wrong`, else 8.
+fn weigh_rest(
     packet: u8,
     components: &[u64],
     specifiers: u64,
     table: &[u16],
     source: &[u8],
-    sets: &mut [u16; 8],
+    index: usize,
+    wrong: usize,
+    sum: usize,
 ) -> Count
-    requires { (length components.now ≤ 8) × (table_size * length components.now ≤ length table.now)
-        × (length sets.old ≡ 8) }
-    ensures { (count_in result ≡ weighed (map part_in components.now) specifiers table.now
-        source.now packet 0 8 0)
-        × AllNoted components.now specifiers table.now source.now
-        sets.new result }
+    requires { (index + length components.now ≤ 8) × (table_size * length components.now ≤ length table.now)
+        × (sum ≤ 4096 * index) }
+    ensures { count_in result ≡ weighed (map part_in components.now) specifiers table.now
+        source.now packet index wrong sum }
 {
-    let mut index: usize = 0;
-    let mut left = specifiers;
-    let mut wrong: usize = 8;
-    let mut sum: usize = 0;
-    let answer = 'components: loop {
-        if components.len() <= index {
-            if wrong < 8 {
-                break 'components Count::Refused {
-                    number: 24,
-                    detail: wrong as u32,
-                };
-            }
-            break 'components Count::Of(sum);
+    if components.len() == 0 {
+        if wrong < 8 {
+            return Count::Refused {
+                number: 24,
+                detail: wrong as u32,
+            };
         }
-        let given = (left % 256) as u8;
-        let outline = ordered(components[index], given);
-        let id = outline.id;
-        let code = outline.code;
-        let from = TABLE * index;
-        match operation::weigh_sizes(outline.kind, id, code, outline.all, &table[from..], source) {
-            Measured::Octets {
-                whole,
-                body: _,
-                set,
-            } => {
-                sets[index] = set as u16;
-                wrong = first_wrong(packet, outline, given, index, wrong);
-                sum = sum + whole;
-                left = left / 256;
-                index = index + 1;
-            }
-            Measured::Refused { number, detail } => {
-                break 'components Count::Refused { number, detail };
-            }
-        }
-    };
-    answer
+        return Count::Of(sum);
+    }
+    let given = (specifiers % 256) as u8;
+    let outline = ordered(components[0], given);
+    let id = outline.id;
+    let code = outline.code;
+    match operation::weigh(outline.kind, id, code, outline.all, table, source) {
+        Count::Of(octets) => weigh_rest(
+            packet,
+            &components[1..],
+            specifiers / 256,
+            &table[TABLE..],
+            source,
+            index + 1,
+            first_wrong(packet, outline, given, index, wrong),
+            sum + octets,
+        ),
+        Count::Refused { number, detail } => Count::Refused { number, detail },
+    }
 }
 
 // ---- the octets, each at the start of what is lent: the answer is how many
 
 // An identifier octet and the shortest length field.
-fn put_head(octet: u8, body: usize, out: &mut [u8]) -> usize
+pub(crate) fn put_head(octet: u8, body: usize, out: &mut [u8]) -> usize
     requires { (body < 65536) × (1 + length (shortest body) ≤ length out.old) }
     ensures { Put (octet ∷ shortest body) 0 out.old result out.new }
 {
@@ -150,7 +134,7 @@ fn put_head(octet: u8, body: usize, out: &mut [u8]) -> usize
 }
 
 // The transaction IDs.
-fn put_ids(ids: &[u8], out: &mut [u8]) -> usize
+pub(crate) fn put_ids(ids: &[u8], out: &mut [u8]) -> usize
     requires { (length ids.now < 128) × (2 + length ids.now ≤ length out.old) }
     ensures { (result ≡ 2 + length ids.now)
         × Put (element (0xC7 ∷ []) ids.now) 0 out.old result out.new }
@@ -165,42 +149,32 @@ fn put_ids(ids: &[u8], out: &mut [u8]) -> usize
     2 + ids.len()
 }
 
-// The components, each by what was measured of it.
-fn put_components(
-    components: &[u64],
-    specifiers: u64,
-    table: &[u16],
-    source: &[u8],
-    sets: &[u16; 8],
-    out: &mut [u8],
-)
-    requires { (length components.now ≤ 8) × (table_size * length components.now ≤ length table.now)
-        × Noted components.now specifiers table.now source.now (length components.now) sets.now
+// The components.
+fn put_rest(components: &[u64], specifiers: u64, table: &[u16], source: &[u8], out: &mut [u8])
+    requires { (table_size * length components.now ≤ length table.now)
         × Fits (sequence (map part_in components.now) specifiers table.now source.now) (length out.old) }
     ensures { out.new ≡ output_after out.old (sequence (map part_in components.now)
         specifiers table.now source.now) }
 {
-    let mut index: usize = 0;
-    let mut left = specifiers;
-    let mut at: usize = 0;
-    'components: while index < components.len() {
-        let outline = ordered(components[index], (left % 256) as u8);
-        let id = outline.id;
-        let code = outline.code;
-        let from = TABLE * index;
-        let octets = component::compose_measured(
-            outline.kind,
-            id,
-            code,
-            outline.all,
-            &table[from..],
+    if components.len() == 0 {
+        return;
+    }
+    let outline = ordered(components[0], (specifiers % 256) as u8);
+    let id = outline.id;
+    let code = outline.code;
+    match component::compose(outline.kind, id, code, outline.all, table, source, out) {
+        Count::Of(octets) => put_rest(
+            &components[1..],
+            specifiers / 256,
+            &table[TABLE..],
             source,
-            sets[index],
-            &mut out[at..],
-        );
-        at = at + octets;
-        left = left / 256;
-        index = index + 1;
+            &mut out[octets..],
+        ),
+        // Not reached: the components were weighed.
+        Count::Refused {
+            number: _,
+            detail: _,
+        } => {}
     }
 }
 
@@ -214,28 +188,19 @@ fn put_package(
     source: &[u8],
     body: usize,
     set: usize,
-    sets: &[u16; 8],
     out: &mut [u8],
 )
     requires { (length ids.now < 128) × (table_size * length components.now ≤ length table.now)
         × (written (sequence (map part_in components.now) specifiers table.now source.now) ≡ accepted set)
         × (body ≡ 2 + length ids.now + (1 + length (shortest set) + set)) × (body < 65536)
-        × (1 + length (shortest body) + body ≤ length out.old) × (length components.now ≤ 8)
-        × Noted components.now specifiers table.now source.now (length components.now) sets.now }
+        × (1 + length (shortest body) + body ≤ length out.old) }
     ensures { out.new ≡ output_after out.old (packaged (map part_in components.now)
         specifiers table.now source.now kind ids.now) }
 {
     let at = put_head(kind, body, out);
     let sequence = at + put_ids(ids, &mut out[at..]);
     let first = sequence + put_head(0xE8, set, &mut out[sequence..]);
-    put_components(
-        components,
-        specifiers,
-        table,
-        source,
-        sets,
-        &mut out[first..],
-    );
+    put_rest(components, specifiers, table, source, &mut out[first..]);
 }
 
 // ---- the writer
@@ -286,11 +251,8 @@ pub fn write(
             detail: 0,
         };
     }
-    let mut sets = [0u16; 8];
-    match weigh_all(kind, components, specifiers, table, source, &mut sets) {
-        Count::Of(set) => put_weighed(
-            kind, ids, components, specifiers, table, source, set, &sets, out,
-        ),
+    match weigh_rest(kind, components, specifiers, table, source, 0, 8, 0) {
+        Count::Of(set) => put_weighed(kind, ids, components, specifiers, table, source, set, out),
         Count::Refused { number, detail } => Writing::Refused { number, detail },
     }
 }
@@ -304,14 +266,11 @@ fn put_weighed(
     table: &[u16],
     source: &[u8],
     set: usize,
-    sets: &[u16; 8],
     out: &mut [u8],
 ) -> Writing
     requires { (length ids.now ≤ 8) × (set ≤ 32768)
         × (table_size * length components.now ≤ length table.now)
-        × (written (sequence (map part_in components.now) specifiers table.now source.now) ≡ accepted set)
-        × (length components.now ≤ 8)
-        × Noted components.now specifiers table.now source.now (length components.now) sets.now }
+        × (written (sequence (map part_in components.now) specifiers table.now source.now) ≡ accepted set) }
     ensures { Outcome out.old (lodged (map part_in components.now) specifiers
         table.now source.now kind ids.now (length out.old)) (written_in result)
         out.new }
@@ -331,7 +290,7 @@ fn put_weighed(
         };
     }
     put_package(
-        kind, ids, components, specifiers, table, source, body, set, sets, out,
+        kind, ids, components, specifiers, table, source, body, set, out,
     );
     Writing::Accepted(whole)
 }

@@ -5,13 +5,15 @@ use Rattle.package.proofs.Fronting.{part}
 use Rattle.package.proofs.Laying.{packages}
 use Rattle.package.proofs.writing.put_package.Goals as goal
 
-pub put_components-requires : goal.put_components-requires
-put_components-requires c =
-    let p = c.requires in
-    (p.6, search rules, p.7, (_, p.2, search rules))
+pub put_rest-requires : goal.put_rest-requires
+put_rest-requires c = (search rules, (_, c.requires.2, search rules))
 
 pub returns : goal.returns
 returns c =
-    packages _ _ _ _ _ _ c.requires.2 c.requires.0 c.requires.3
-    (then (then c.put_head-at.ensures (part c.put_ids.ensures.1) (search rules)) (part c.put_head.ensures) (search rules))
-    c.put_components.ensures
+    let third = c.before.before.before.before.before.before.before in
+    let second = third.before.before.before.before in
+    let first = second.before.before.before.before in
+    let start = first.before.before.before.before.before.before.before in
+    packages _ _ _ _ _ _ start.requires.2 start.requires.0 start.requires.3
+    (then (then first.put_head-at.ensures (part second.put_ids.ensures.1) (search rules)) (part third.put_head.ensures) (search rules))
+    c.put_rest.ensures

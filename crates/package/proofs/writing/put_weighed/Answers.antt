@@ -24,7 +24,7 @@ pub put_package-requires : goal.put_package-requires
 put_package-requires c =
     let h = c.requires in
     let z = sizes c.before.before.before.before in
-    (z.few, h.2, h.3, z.contents, z.small, omega (arith, z.all), h.4, h.5)
+    (z.few, h.2, h.3, z.contents, z.small, omega (arith, z.all))
 
 pub returns : goal.returns
 returns c =

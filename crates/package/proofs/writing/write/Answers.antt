@@ -57,13 +57,13 @@ ready c =
 
 pub put_weighed-requires : goal.put_weighed-requires
 put_weighed-requires c =
-    let r = ready c.before.before.before.before.before.before in
-    let (few, short, held, counted) = asked _ _ _ _ _ _ r (sym (ap count_in c.in-Of.is) ∙ c.weigh_all.ensures.0) in
-    (few, short, held, counted, r.few, rw c.in-Of.is at c.weigh_all.ensures.1)
+    let weighed = c.before.before.before in
+    asked _ _ _ _ _ _ (ready weighed.before) (sym (ap count_in c.in-Of.is) ∙ weighed.weigh_rest.ensures)
 
 pub returns-in-Of : goal.returns-in-Of
 returns-in-Of c =
-    writes _ _ _ _ _ _ (ready c.before.before.before.before.before.before.before.before.before) _ (sym (ap count_in c.in-Of.is) ∙ c.weigh_all.ensures.0) c.put_weighed.ensures
+    let weighed = c.before.before.before.before.before.before in
+    writes _ _ _ _ _ _ (ready weighed.before) _ (sym (ap count_in c.in-Of.is) ∙ weighed.weigh_rest.ensures) c.put_weighed.ensures
 
 pub returns-in-Refused : goal.returns-in-Refused
-returns-in-Refused c = refuses _ _ _ _ _ _ (ready c.before.before.before.before) _ (sym (ap count_in c.in-Refused.is) ∙ c.weigh_all.ensures.0)
+returns-in-Refused c = let weighed = c.before.before in refuses _ _ _ _ _ _ (ready weighed.before) _ (sym (ap count_in c.in-Refused.is) ∙ weighed.weigh_rest.ensures)

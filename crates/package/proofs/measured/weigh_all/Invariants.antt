@@ -1,8 +1,8 @@
 -- `package::weigh_all` meets its contract. The invariant: what is left to be weighed is what is weighed of all, and what was weighed is noted.
 use Prim.Native.Nat.{◌*◌, ◌-◌, ◌≤◌}
 use lib.ListN.{length}
-use Rattle.package.proofs.Weighing.{Going}
-use Rattle.package.proofs.writing.weigh_all.Given as goal
+use Rattle.package.proofs.MeasuredWeighing.{Going}
+use Rattle.package.proofs.measured.weigh_all.Given as goal
 
 abbrev pub invariant-components : goal.invariant-components
 invariant-components l =

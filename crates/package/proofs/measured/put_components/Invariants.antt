@@ -1,8 +1,8 @@
 -- `package::put_components` meets its contract. The invariant: what is left of the octets, behind those that are put down.
 use Prim.Native.Nat.{◌-◌, ◌≤◌}
 use lib.ListN.{length}
-use Rattle.package.proofs.Laying.{Laying}
-use Rattle.package.proofs.writing.put_components.Given as goal
+use Rattle.package.proofs.MeasuredLaying.{Laying}
+use Rattle.package.proofs.measured.put_components.Given as goal
 
 abbrev pub invariant-components : goal.invariant-components
 invariant-components l =

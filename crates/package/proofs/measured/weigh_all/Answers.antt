@@ -3,11 +3,11 @@ use Prim.Native.Nat.{◌≤◌}
 use mathlib.Core.Path.{sym, ap, ◌∙◌}
 use native.Mathlib.Omega.{arith}
 use Rattle.component.specs.Told.{measure_in}
-use Rattle.package.proofs.Weighing.{few_octets, begun, all_wrong, all_weighed, refuses_all, goes_on}
-use Rattle.package.proofs.writing.weigh_all.Goals as goal
-use Rattle.package.proofs.writing.weigh_all.Lts as lts
-use Rattle.package.proofs.writing.weigh_all.Reads as reads
-use Rattle.package.proofs.writing.weigh_all.Tie as tie
+use Rattle.package.proofs.MeasuredWeighing.{few_octets, begun, all_wrong, all_weighed, refuses_all, goes_on}
+use Rattle.package.proofs.measured.weigh_all.Goals as goal
+use Rattle.package.proofs.measured.weigh_all.Lts as lts
+use Rattle.package.proofs.measured.weigh_all.Reads as reads
+use Rattle.package.proofs.measured.weigh_all.Tie as tie
 
 pub components-init : goal.components-init
 components-init c = (omega arith, omega arith, begun c.requires.2)

@@ -3,11 +3,11 @@ use Prim.Native.Nat.{◌≤◌}
 use lib.ListN.{length}
 use native.Mathlib.Omega.{arith}
 use borrow.Author.Rules.{rules}
-use Rattle.package.proofs.Laying.{begun, within, ended, more}
-use Rattle.package.proofs.writing.put_components.Goals as goal
-use Rattle.package.proofs.writing.put_components.Lts as lts
-use Rattle.package.proofs.writing.put_components.Reads as reads
-use Rattle.package.proofs.writing.put_components.Tie as tie
+use Rattle.package.proofs.MeasuredLaying.{begun, within, ended, more}
+use Rattle.package.proofs.measured.put_components.Goals as goal
+use Rattle.package.proofs.measured.put_components.Lts as lts
+use Rattle.package.proofs.measured.put_components.Reads as reads
+use Rattle.package.proofs.measured.put_components.Tie as tie
 
 pub components-init : goal.components-init
 components-init c =
