@@ -1,22 +1,19 @@
 -- The count over the entries against the definition: what is left of it, and its laws: it begins, ends, goes on, stops.
 use Prim.Native.Nat.{ℕ, suc, ◌+◌, ◌-◌, ◌<◌, ◌≤◌}
 use mathlib.Core.Path.{◌≡◌, refl, sym, ap, ◌∙◌}
-use mathlib.Core.Bool.{Bool, true, false}
+use mathlib.Core.Bool.{true, false}
 use mathlib.Core.List.{List, ◌∷◌}
 use lib.ListN.{length}
 use native.Mathlib.Omega.{arith}
 use native.Mathlib.Nat.{add-zero, zero-add, sub-zero}
-use Rattle.element.specs.Octets.{Octets, if}
+use Rattle.element.specs.Octets.{Octets}
 use Rattle.element.specs.Answer.{Answer, accepted, refused, ◌>>=◌}
-use Rattle.element.specs.Length.{field_size}
 use Rattle.element.specs.Identifier.{identifier_size}
 use Rattle.component.specs.Grammar.{Parameter}
 use Rattle.component.specs.Table.{Entry, held, held_from, EntryStands, parameter_of}
 use Rattle.component.specs.Composing.{entry_stands, taken_from, entries_from}
 use Rattle.component.specs.Needed.{element_size, set_size}
 use Rattle.component.specs.inner.Emitting.{sized}
-use Rattle.element.proofs.Reading.{less}
-use Rattle.component.proofs.Sizing.{counted}
 use Rattle.component.proofs.Entries.{stands}
 use Rattle.component.proofs.Putting.{part_length}
 
@@ -24,21 +21,6 @@ pub entry_size : {source : Octets} {e : Entry} → EntryStands source e →
     element_size (identifier_size e.number) e.size ≡ element_size (identifier_size (parameter_of source e).number) (length (parameter_of source e).content)
 unfolding parameter_of
 entry_size {source} {e} s = ap (element_size (identifier_size e.number)) (sym (part_length source e.start e.size s.content))
-
--- an entry that is none has 0 octets, and no other has
-some : (b : Bool) {size n : ℕ} → size ≡ if b n 0 → (size ≡ 0 → ⊥) → (b ≡ true) × (size ≡ n)
-some true e h = (refl, e)
-some false e h = absurd (h e)
-
-none : (b : Bool) {size n : ℕ} → size ≡ if b n 0 → size ≡ 0 → 1 ≤ n → b ≡ false
-none true e h k = absurd (omega arith)
-none false e h k = refl
-
-some_octets : (number size : ℕ) → 1 ≤ element_size (identifier_size number) size
-unfolding element_size identifier_size
-some_octets number size =
-    less (λ k. 1 ≤ k + field_size size + size) {x = number} {y = 31} (λ _. omega arith) λ _.
-    less (λ k. 1 ≤ k + field_size size + size) {x = number} {y = 128} (λ _. omega arith) (λ _. omega arith)
 
 -- what is left from entry `i` on, where `sum` octets are counted
 unfoldable pub left : (count : ℕ) (table : List ℕ) (source : Octets) (i sum : ℕ) → Answer ℕ
@@ -69,12 +51,12 @@ module _ (count : ℕ) (t : List ℕ) (source : Octets) where
       room : count - i ≡ suc (count - (i + 1))
       room = omega arith
 
-      pub goes_on : {size : ℕ} → size ≡ counted source (held t i) → (size ≡ 0 → ⊥) → left count t source (i + 1) (sum + size) ≡ left count t source i sum
+      pub goes_on : {size : ℕ} → entry_stands source (held t i) ≡ true → size ≡ element_size (identifier_size (held t i).number) (held t i).size →
+          left count t source (i + 1) (sum + size) ≡ left count t source i sum
       unfolding left taken_from held_from
-      goes_on {size} f h =
-          let (e, g) = some (entry_stands source (held t i)) f h in
-          rw room (simp e (one_more sum size (parameter_of source (held t i)) (entries_from (i + 1) (count - (i + 1)) t source) (g ∙ entry_size (stands e))))
+      goes_on {size} e f =
+          rw room (simp e (one_more sum size (parameter_of source (held t i)) (entries_from (i + 1) (count - (i + 1)) t source) (f ∙ entry_size (stands e))))
 
-      pub stops : {size : ℕ} → size ≡ counted source (held t i) → size ≡ 0 → refused 16 i ≡ left count t source i sum
+      pub stops : entry_stands source (held t i) ≡ false → refused 16 i ≡ left count t source i sum
       unfolding left taken_from held_from
-      stops f h = rw room (simp (none (entry_stands source (held t i)) f h (some_octets _ _)))
+      stops e = rw room (simp e)

@@ -18,6 +18,7 @@ pub mod Putting
 pub mod Composition
 pub mod Sizing
 pub mod Counting
+pub mod Counted
 pub mod Measuring
 pub mod Emission
 pub mod Outcome

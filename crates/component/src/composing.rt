@@ -128,49 +128,35 @@ fn whole_size(kind: u8, octets: u8, set: usize) -> Measured
     Measured::Octets { whole, body, set }
 }
 
-// Whether an entry's form is one, and its contents stand in the source.
-fn contents_stand(form: u16, start: u16, size: u16, source: &[u8]) -> bool
-    ensures { result ≡ (leb form 1 && fits source.now start size) }
+// Whether an entry is one of a parameter whose contents stand in the source.
+fn entry_stands(i: usize, table: &[u16], source: &[u8]) -> bool
+    requires { (i < 64) × (width * i + 3 < length table.now) }
+    ensures { result ≡ entry_stands source.now (held table.now i) }
 {
-    if 1 < form {
+    if 16383 < table[WIDTH * i] {
         return false;
     }
-    wide(start) + wide(size) <= source.len()
+    if 1 < table[WIDTH * i + 1] {
+        return false;
+    }
+    wide(table[WIDTH * i + 2]) + wide(table[WIDTH * i + 3]) <= source.len()
 }
 
-// The octets of an entry's parameter, 0 where the entry is none. Most parameters have one or two octets of identifier and
-// one of length, so that is asked first, and then no number is over 16,383. Longer contents have an answer of their own
-// behind each: the compiler would else ask both questions of each, or choose without branches.
-fn entry_size(i: usize, table: &[u16], source: &[u8]) -> usize
-    requires { (i < 64) × (width * i + 3 < length table.now) }
-    ensures { (result ≡ if (entry_stands source.now (held table.now i))
-        (element_size (identifier_size (held table.now i).number) (held table.now i).size) 0)
-        × (result ≤ 65542) }
+// A parameter: most have one octet of identifier and one of length, so that is asked first. Longer contents behind one
+// octet have an answer of their own: the compiler would else ask both questions of each.
+fn parameter_size(number: u16, size: u16) -> usize
+    ensures { (result ≡ element_size (identifier_size number) size) × (result ≤ 65542) }
 {
-    let number = table[WIDTH * i];
-    let size = table[WIDTH * i + 3];
-    if !contents_stand(table[WIDTH * i + 1], table[WIDTH * i + 2], size, source) {
-        return 0;
-    }
     if number < 31 {
         if size < 128 {
             return 2 + wide(size);
         }
         return element_size(1, wide(size));
     }
-    if number < 128 {
-        if size < 128 {
-            return 3 + wide(size);
-        }
-        return element_size(2, wide(size));
-    }
-    if 16383 < number {
-        return 0;
-    }
-    element_size(3, wide(size))
+    element_size(element::identifier_size(number), wide(size))
 }
 
-// The parameters: 16 at the first entry that is none, which 0 says, as a parameter takes two octets or more.
+// The parameters: 16 at the first entry that does not stand.
 fn set_size(count: usize, table: &[u16], source: &[u8]) -> Count
     requires { (count ≤ 64) × (width * count ≤ length table.now) }
     ensures { (count_in result ≡ sized (entries_from 0 count table.now source.now))
@@ -182,15 +168,15 @@ fn set_size(count: usize, table: &[u16], source: &[u8]) -> Count
         if count <= i {
             break 'entries Count::Of(sum);
         }
-        let size = entry_size(i, table, source);
-        if size == 0 {
+        if entry_stands(i, table, source) {
+            sum = sum + parameter_size(table[WIDTH * i], table[WIDTH * i + 3]);
+            i = i + 1;
+        } else {
             break 'entries Count::Refused {
                 number: 16,
                 detail: i as u32,
             };
         }
-        sum = sum + size;
-        i = i + 1;
     };
     answer
 }
@@ -440,6 +426,49 @@ pub fn compose(
 }
 
 // ---- a component that was measured before
+
+// Whether an entry's form is one, and its contents stand in the source: what `entry_stands` says, but for the number.
+fn contents_stand(form: u16, start: u16, size: u16, source: &[u8]) -> bool
+    ensures { result ≡ (leb form 1 && fits source.now start size) }
+{
+    if 1 < form {
+        return false;
+    }
+    wide(start) + wide(size) <= source.len()
+}
+
+// What `entry_stands` and `parameter_size` say, by one number for `put_fitting`: the octets of an entry's parameter, 0
+// where the entry is none, as a parameter takes two octets or more. Most have one or two octets of identifier and one
+// of length, so that is asked first, and then no number is over 16,383. Longer contents have an answer of their own
+// behind each: the compiler would else ask both questions of each, or choose without branches.
+fn entry_size(i: usize, table: &[u16], source: &[u8]) -> usize
+    requires { (i < 64) × (width * i + 3 < length table.now) }
+    ensures { (result ≡ if (entry_stands source.now (held table.now i))
+        (element_size (identifier_size (held table.now i).number) (held table.now i).size) 0)
+        × (result ≤ 65542) }
+{
+    let number = table[WIDTH * i];
+    let size = table[WIDTH * i + 3];
+    if !contents_stand(table[WIDTH * i + 1], table[WIDTH * i + 2], size, source) {
+        return 0;
+    }
+    if number < 31 {
+        if size < 128 {
+            return 2 + wide(size);
+        }
+        return element_size(1, wide(size));
+    }
+    if number < 128 {
+        if size < 128 {
+            return 3 + wide(size);
+        }
+        return element_size(2, wide(size));
+    }
+    if 16383 < number {
+        return 0;
+    }
+    element_size(3, wide(size))
+}
 
 // The parameters, up to the first that does not stand or finds no room. For the longest identifier and length there
 // mostly is room, so that is asked first.

@@ -10,11 +10,10 @@ entries-init c = (search rules, search rules, begins _ _ _)
 
 pub entries-preserved : goal.entries-preserved
 entries-preserved c =
-    (search rules, omega arith, c.entries.invariant.2 ∙ sym (goes_on _ _ _ _ _ c.if-count-i.false c.entry_size-size.ensures.0 c.if-size-eq0.false))
+    (search rules, omega arith, c.entries.invariant.2 ∙ sym (goes_on _ _ _ _ _ c.if-count-i.false (sym c.entry_stands.ensures ∙ c.if-entry_stands.true) c.parameter_size-sum.ensures.0))
 
 pub returns-then-count-i : goal.returns-then-count-i
 returns-then-count-i c = (ends _ _ _ _ _ c.if-count-i.true ∙ sym c.entries.invariant.2, omega arith)
 
-pub returns-then-size-eq0 : goal.returns-then-size-eq0
-returns-then-size-eq0 c =
-    (stops _ _ _ _ _ c.if-count-i.false c.entry_size-size.ensures.0 c.if-size-eq0.true ∙ sym c.entries.invariant.2, tt)
+pub returns-else-entry_stands : goal.returns-else-entry_stands
+returns-else-entry_stands c = (stops _ _ _ _ _ c.if-count-i.false (sym c.entry_stands.ensures ∙ c.if-entry_stands.false) ∙ sym c.entries.invariant.2, tt)
