@@ -1,5 +1,6 @@
 -- The layout of one component, as the reader decides it from left to right.
-use Rattle.std.specs.Prelude.{ℕ, zero, suc, ◌+◌, ◌-◌, Bool, ◌||◌, not, List, [], ◌∷◌, length, get_or, take, drop, ltb, leb, eqb}
+use Rattle.std.specs.Prelude.{ℕ, zero, suc, ◌+◌, ◌-◌, Bool, ◌||◌, not, List, [], ◌∷◌, length, get_or, take}
+use Rattle.std.specs.Prelude.{drop, ltb, leb, eqb}
 use Rattle.element.specs.declared.Length as L
 use Rattle.element.specs.declared.Length.TheVariants as LV
 use Rattle.element.specs.declared.Identifier as I

@@ -1,7 +1,7 @@
 // The loop that reads and writes: tagged fields are read from a reader, and lines are written to a writer. No contract
-// can say what the system reads or writes, so the loop is proved safe and ending and states no outcome. What a field does
-// to the run is `lines::list_field`, or `lines::list_package`, which state all of it. A read or a write that fails ends
-// the run, and is answered.
+// can say what the system reads or writes, so the loop is proved safe and ending and states no outcome. What a field
+// does to the run is `lines::list_field`, or `lines::list_package`, which state all of it. A read or a write that fails
+// ends the run, and is answered.
 #![tactic(auto)]
 
 mod failure;

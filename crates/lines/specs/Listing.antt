@@ -1,5 +1,6 @@
 -- The listing: what a tagged field does to the run, the lines of a list of fields, and what is printed of an input.
-use Rattle.std.specs.Prelude.{ℕ, ◌+◌, ◌/◌, ◌%◌, ◌^◌, Bool, false, ◌&&◌, List, [], ◌∷◌, ◌++◌, length, drop, ◌==◌, nat_le, nat_lt, slice_index}
+use Rattle.std.specs.Prelude.{ℕ, ◌+◌, ◌/◌, ◌%◌, ◌^◌, Bool, false, ◌&&◌, List, [], ◌∷◌, ◌++◌, length, drop, ◌==◌}
+use Rattle.std.specs.Prelude.{nat_le, nat_lt, slice_index}
 use Rattle.element.specs.Octets.{Octets, if}
 use Rattle.element.specs.Field.{put}
 use Rattle.component.specs.Table.{table_size}

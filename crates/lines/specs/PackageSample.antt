@@ -46,11 +46,11 @@ printed_lines =
 
 pub sample : printed packages input ≡ packages_header ++ printed_lines
 unfolding length_at numbered identifier_at span_of contents wanted set_at format_of typed id_fits coded_at code_at
-    behind_id body_at head_from parameter parameter_at parameters layout_behind layout_from code_octets operation_place
-    key number_of members some_of among on_line asks named repeats allows fixed sizes_in sizes occurs last_mark once sized
-    met present doubled single
-    judge count_named operations find rowed row_of item_of operation_of told_code operation_in count_other shown_of reading_from
-    octets package_type id_size sequence_at ids_at opening components_from all_from lines others line_of column carrier
-    read_each carries carried_in few sequence_reading package_reading told field_at digits decimal L.cell L.row L.line_of
-    inside_line inside_lines package_lines eight_of after lines_for listing fills whole input_from input_of printed
+    behind_id body_at head_from parameter parameter_at parameters layout_behind layout_from code_octets
+    operation_place key number_of members some_of among on_line asks named repeats allows fixed sizes_in sizes occurs
+    last_mark once sized met present doubled single judge count_named operations find rowed row_of item_of
+    operation_of told_code operation_in count_other shown_of reading_from octets package_type id_size sequence_at
+    ids_at opening components_from all_from lines others line_of column carrier read_each carries carried_in few
+    sequence_reading package_reading told field_at digits decimal L.cell L.row L.line_of inside_line inside_lines
+    package_lines eight_of after lines_for listing fills whole input_from input_of printed
 sample = refl

@@ -2,7 +2,8 @@
 use Rattle.std.specs.Prelude.{◌≡◌, [], ◌∷◌, ◌++◌, refl}
 use Rattle.element.specs.Octets.{Octets}
 use Rattle.element.specs.Decoded.{length_at, numbered, identifier_at}
-use Rattle.component.specs.Layout.{span_of, contents, wanted, set_at, coded_at, code_at, behind_id, body_at, head_from, head_at}
+use Rattle.component.specs.Layout.{span_of, contents, wanted, set_at, coded_at, code_at, behind_id, body_at}
+use Rattle.component.specs.Layout.{head_from, head_at}
 use Rattle.component.specs.Layout.{parameter, parameter_at, parameters, layout_behind, layout_at, code_octets}
 use Rattle.component.specs.Layout.{operation_place}
 use Rattle.component.specs.Types.{format_of, typed, id_fits}
@@ -34,11 +35,11 @@ lines =
 
 pub sample : printed components input ≡ header_line ++ lines
 unfolding length_at numbered identifier_at span_of contents wanted set_at format_of typed id_fits coded_at code_at
-    behind_id body_at head_from head_at parameter parameter_at parameters layout_behind layout_at code_octets operation_place
-    key number_of members some_of among on_line asks named repeats allows fixed sizes_in sizes occurs last_mark once sized
-    met present doubled single
-    judge count_named operations find rowed row_of item_of operation_of told_code operation_in count_other shown_of reading_at
-    told field_at digits decimal cell row line_of after lines_for listing fills whole input_from input_of printed
+    behind_id body_at head_from head_at parameter parameter_at parameters layout_behind layout_at code_octets
+    operation_place key number_of members some_of among on_line asks named repeats allows fixed sizes_in sizes occurs
+    last_mark once sized met present doubled single judge count_named operations find rowed row_of item_of
+    operation_of told_code operation_in count_other shown_of reading_at told field_at digits decimal cell row line_of
+    after lines_for listing fills whole input_from input_of printed
 sample = refl
 
 -- no field; a header of two octets; a specifier field of two octets of which one is there

@@ -337,7 +337,8 @@ pub(crate) fn judge_operation(kind: u8, operation: u8, table: &[u16], count: usi
     }
 }
 
-// The same for a reader, which asks nothing of an ERROR and a REJECT: most of what such a reading cost here was the call.
+// The same for a reader, which asks nothing of an ERROR and a REJECT: most of what such a reading cost here was the
+// call.
 pub(crate) fn judge_sheet(kind: u8, operation: u8, sheet: &[u16], count: usize) -> Judged
     requires { (width * count ≤ length sheet.now) × (count ≤ 64) }
     ensures { judged_in result ≡ verdict kind operation (items_from sheet.now 0 count) }

@@ -59,8 +59,8 @@ pub struct Outline {
 
 // A summary taken apart.
 pub fn outline_of(summary: u64) -> Outline
-    ensures { (result.kind ≡ (told_in summary).kind) × (result.id ≡ (told_in summary).id) × (result.code ≡ (told_in summary).code)
-        × (result.all ≡ (told_in summary).all) }
+    ensures { (result.kind ≡ (told_in summary).kind) × (result.id ≡ (told_in summary).id)
+        × (result.code ≡ (told_in summary).code) × (result.all ≡ (told_in summary).all) }
 {
     let kind = summary / 256;
     let first = kind / 256;

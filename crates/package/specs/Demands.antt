@@ -1,7 +1,8 @@
 -- The demands on packages, to be read beside order 5: what is asked of any package reader and any package writer, by
 -- what a caller sees of them. The words are the grammar, its faults, Table 2, and what the component's reader and
 -- writer say, of which there is one each. `Model` names ours: it satisfies them, and no other does.
-use Rattle.std.specs.Prelude.{ℕ, zero, suc, ◌+◌, ◌-◌, ◌/◌, ◌%◌, ◌<◌, ◌≤◌, ◌≡◌, List, [], ◌∷◌, ◌++◌, map, length, take, drop, replicate}
+use Rattle.std.specs.Prelude.{ℕ, zero, suc, ◌+◌, ◌-◌, ◌/◌, ◌%◌, ◌<◌, ◌≤◌, ◌≡◌, List, [], ◌∷◌, ◌++◌, map, length}
+use Rattle.std.specs.Prelude.{take, drop, replicate}
 use Rattle.element.specs.Octets.{Octets, AreOctets, if}
 use Rattle.element.specs.Answer.{accepted, refused}
 use Rattle.component.specs.Grammar.{Component, Laid}

@@ -27,9 +27,9 @@ use super::writing::{first_wrong, ordered, put_head, put_ids};
 use component::{Count, Measured, TABLE};
 use operation::Writing;
 
-// The octets that the components take. What the others are refused for comes before 24, so the index of a component that
-// is not carried goes along as `wrong`, else 8. The octets of each one's parameters are noted in `sets`: what puts the
-// components down need not measure them again.
+// The octets that the components take. What the others are refused for comes before 24, so the index of a component
+// that is not carried goes along as `wrong`, else 8. The octets of each one's parameters are noted in `sets`: what puts
+// the components down need not measure them again.
 fn weigh_all(
     packet: u8,
     components: &[u64],
