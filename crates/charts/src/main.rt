@@ -8,6 +8,7 @@
 #![tactic(auto)]
 
 use fields::Failure;
+use lines::Components;
 use std::io::{Read, Write};
 use std::process::ExitCode;
 
@@ -19,7 +20,7 @@ fn print<W: Write>(to: &mut W, number: u16, mark: &[u8]) -> Result<(), Failure> 
 fn run<R: Read, W: Write>(from: &mut R, to: &mut W) -> Result<(), Failure> {
     let mut component = [0u8; 4097];
     let mut table = [0u16; component::TABLE];
-    fields::list(from, to, &mut component, &mut table)?;
+    fields::list::<Components, R, W>(from, to, &mut component, &mut table)?;
     print(to, table[2], b" ")?;
     print(to, table[3], b" ")?;
     print(to, table[4], b"\n")

@@ -7,10 +7,9 @@ use lib.ListN.{length, take, drop, get_or, length-take, take-append-drop}
 use lib.Seq.{get_or-append-add}
 use native.Mathlib.Decide.{dec_le, ℕ_discrete}
 use native.Mathlib.Omega.{arith}
+use Rattle.std.specs.Prelude.{Option, Some, None}
 use Rattle.element.specs.declared.Length as L
-use Rattle.element.specs.declared.Length.TheVariants as LV
 use Rattle.element.specs.declared.Identifier as I
-use Rattle.element.specs.declared.Identifier.TheVariants as IV
 use Rattle.element.specs.Octets.{Octets, AreOctets}
 use Rattle.element.specs.Answer.{Answer, accepted, refused}
 use Rattle.element.specs.Length.{LengthField}
@@ -55,13 +54,13 @@ dec_between a b c = ask (dec_le a b) (λ h. ask (dec_le b c) (λ k. yes (h, k)) 
 pub behind : {s : Octets} → AreOctets s → (e rest : Octets) → s ≡ e ++ rest → AreOctets rest
 behind o e rest p i = rw (get_or-append-add e rest i 0) at (rw p at o (length e + i))
 
-no_length : {s : Octets} → length_at s ≡ LV.Wrong → NoField s
+no_length : {s : Octets} → length_at s ≡ None → NoField s
 no_length e n field rest f p =
     let g = Length.complete f rest in
     let z : ◌≡◌ {A = ℕ} 0 1 = cc in
     omega arith
 
-not_identified : {s : Octets} → identifier_at s ≡ IV.IllFormed → NoIdentifier s
+not_identified : {s : Octets} → identifier_at s ≡ None → NoIdentifier s
 not_identified e number form head rest f p =
     let g = Identifier.complete f rest in
     let z : ◌≡◌ {A = ℕ} 0 1 = cc in
@@ -89,8 +88,10 @@ module _ (ns : Numbers) where
   pub hold : (head : Octets) (at : ℕ) (s : Octets) → AreOctets s → Decided (Held head (head ++ s)) (Unheld ns head at (head ++ s))
   hold head at s o = go (length_at s) refl
     where
-      go : (l : L.Length) → length_at s ≡ l → Decided (Held head (head ++ s)) (Unheld ns head at (head ++ s))
-      go (LV.Is n k) e =
+      go : (l : Option L.Length) → length_at s ≡ l → Decided (Held head (head ++ s)) (Unheld ns head at (head ++ s))
+      go (Some read) e =
+          let n = read.value in
+          let k = read.size in
           let (f, _) = Length.sound s o e in
           let r = drop k s in
           let p = sym (take-append-drop k s) in
@@ -105,7 +106,7 @@ module _ (ns : Numbers) where
             is = ap (λ t. head ++ t) (p ∙ ap (λ t. take k s ++ t) (sym (take-append-drop n r))) ∙ simp append_assoc;
           }))
           (λ h. fault (overrun_at r p f (omega arith)))
-      go LV.Wrong e = fault (no_field s (no_length e))
+      go None e = fault (no_field s (no_length e))
 
   pub find : (octet number at : ℕ) (t : Octets) → AreOctets t → Decided (Held (octet ∷ []) t) (Unfound ns octet number at t)
   find octet number at [] o = fault ended
@@ -146,13 +147,16 @@ next room at (a ∷ s) o again = go (identifier_at (a ∷ s)) refl
     t : Octets
     t = a ∷ s
 
-    go : (i : I.Identifier) → identifier_at t ≡ i → Sets (suc room) at t
-    go (IV.Is number form k) e =
+    go : (i : Option I.Identifier) → identifier_at t ≡ i → Sets (suc room) at t
+    go (Some read) e =
+        let number = read.number in
+        let form = read.form in
+        let k = read.size in
         let (f, _) = Identifier.sound t o e in
         let p = take-append-drop k t in
         then (rw p at (hold component (take k t) at (drop k t) (behind o (take k t) (drop k t) (sym p)))) (λ n d u. InSet.unheld f u) λ h.
         then (again (at + length h.e) h.rest (behind o h.e h.rest h.is)) (λ n d i. later f h i) λ s. fine (one_more f h s)
-    go IV.IllFormed e = fault (InSet.no_identifier (not_identified e))
+    go None e = fault (InSet.no_identifier (not_identified e))
 
 parameters : (room at : ℕ) (t : Octets) → AreOctets t → Sets room at t
 parameters zero at [] o = fine nothing

@@ -6,9 +6,8 @@ use mathlib.Core.List.{List, [], ◌∷◌, ◌++◌, append_assoc}
 use lib.ListN.{length, drop, length-append}
 use lib.Seq.{take-append_seam, drop-append_seam}
 use native.Mathlib.Omega.{arith}
-use Rattle.element.specs.declared.Identifier.TheVariants as IV
 use Rattle.element.specs.Octets.{Octets}
-use Rattle.element.specs.Decoded.{length_at, identifier_at}
+use Rattle.element.specs.Decoded.{an_identifier, length_at, identifier_at}
 use Rattle.element.specs.Identifier.{IdentifierField}
 use Rattle.element.proofs.LengthLaws as L
 use Rattle.element.proofs.IdentifierLaws as I
@@ -28,7 +27,8 @@ same_element {head} {head'} {body} {body'} (laid f p) (laid g q) k r r' e =
     let l : length_at (f ++ (body ++ r)) ≡ length_at (g ++ (body' ++ r')) = rw d in
     let m = L.complete p (body ++ r) in
     let n = L.complete q (body' ++ r') in
-    cut body body' r r' (cc) (cut f g (body ++ r) (body' ++ r') (cc) d).1
+    let (j, i) = L.same_length (sym m ∙ l ∙ n) in
+    cut body body' r r' j (cut f g (body ++ r) (body' ++ r') i d).1
 
 -- the same octets have the same type
 same_head : {a b : ℕ} {body body' s : Octets} → Element (a ∷ []) body s → Element (b ∷ []) body' s → (a ≡ b) × (body ≡ body')
@@ -39,7 +39,7 @@ pub element_unique : {head body body' s s' : Octets} → Element head body s →
 element_unique w v r r' e = same_element w v refl r r' e
 
 identified : {number form : ℕ} {head body s : Octets} → IdentifierField number form head → Element head body s → (r : Octets) →
-    identifier_at (s ++ r) ≡ IV.Is number form (length head)
+    identifier_at (s ++ r) ≡ an_identifier number form (length head)
 identified {body = body} n (laid field p) r = simp append_assoc (I.complete n (field ++ (body ++ r)))
 
 same_parameters : {ps qs : List Parameter} {s t : Octets} → Parameters ps s → Parameters qs t → s ≡ t → ps ≡ qs
@@ -49,9 +49,8 @@ same_parameters (more p n w r) none e = absurd (omega (arith, simp length-append
 same_parameters (more p {rest = x} n w r) (more q {rest = y} m v u) e =
     let a = identified n w x in
     let b = identified m v y in
-    let f : p.number ≡ q.number = cc in
-    let g : p.form ≡ q.form = cc in
-    let (c, d) = same_element w v (cc) x y e in
+    let (f, g, j) = I.same_identifier (sym a ∙ rw e b) in
+    let (c, d) = same_element w v j x y e in
     let h : p ≡ q = λ i. record { number = f i; form = g i; content = c i } in
     let l = same_parameters r u d in
     cc

@@ -2,23 +2,19 @@
 use Prim.Native.Nat.{ℕ, suc, ◌+◌, ◌<◌, ◌≤◌}
 use mathlib.Core.Path.{◌≡◌, refl}
 use mathlib.Core.Bool.{Bool, ◌||◌, not}
-use lib.ListN.{length, get_or}
+use lib.ListN.{get_or}
 use lib.Dec.{ltb, leb, eqb}
 use borrow.Author.Tests.{leb-true, eqb-true}
 use native.Mathlib.Omega.{arith}
+use Rattle.std.specs.Prelude.{Option, Some, None}
 use Rattle.element.specs.declared.Length as L
-use Rattle.element.specs.declared.Length.TheVariants as LV
-use Rattle.element.specs.declared.Identifier as I
-use Rattle.element.specs.declared.Identifier.TheVariants as IV
 use Rattle.element.specs.Octets.{Octets, AreOctets, between}
 use Rattle.element.specs.Answer.{accepted}
-use Rattle.element.specs.Decoded.{length_at, identifier_at}
+use Rattle.element.specs.Decoded.{length_at}
 use Rattle.element.proofs.LengthLaws as Length
-use Rattle.element.proofs.IdentifierLaws as Identifier
 use Rattle.component.specs.Types.{Coding, uncoded, coded, family_size}
-use Rattle.component.specs.Layout.{Span, span, size_of, contents, span_of, wanted, set_at, coded_at, code_at, parameter_at, parameter}
-use Rattle.component.specs.Table.{Entry, next}
-use Rattle.component.proofs.Parts.{length_between, octets_between}
+use Rattle.component.specs.Layout.{Span, span, size_of, contents, span_of, wanted, set_at, coded_at, code_at}
+use Rattle.component.proofs.Parts.{octets_between}
 use Rattle.component.proofs.Taken.{taken, passed}
 
 -- the contents of an element, behind its length field or its identifier at `from`
@@ -27,31 +23,21 @@ pub record Held (from end : ℕ) (x : Span) : Type 0 where
   pub ordered : x.start ≤ x.end
   pub inside : x.end ≤ end
 
--- where the contents of a parameter stand
-pub record Placed (at end : ℕ) (e : Entry) : Type 0 where
-  pub behind : at < e.start
-  pub inside : next e ≤ end
-
 module _ (s : Octets) (o : AreOctets s) where
-  -- a length field that was read, and an identifier
-  pub length_inside : (from : ℕ) {end value size : ℕ} → end ≤ length s → length_at (between from end s) ≡ LV.Is value size → (1 ≤ size) × (from + size ≤ end) × (value < 65536)
-  length_inside from {end} h e = omega (arith, length_between s from h, Length.inside _ (octets_between s o from end) e)
-
-  pub identifier_inside : (at : ℕ) {end number form size : ℕ} → end ≤ length s → identifier_at (between at end s) ≡ IV.Is number form size → (1 ≤ size) × (size ≤ 3) × (at + size ≤ end)
-  identifier_inside at {end} h e = omega (arith, length_between s at h, Identifier.inside _ (octets_between s o at end) e)
-
   pub inside : (at : ℕ) {from end : ℕ} {x : Span} → contents s at from end ≡ accepted x → Held from end x
   unfolding contents span_of
   inside at {from} {end} {x} e = go (length_at (between from end s)) refl e
     where
-      go : (l : L.Length) → length_at (between from end s) ≡ l → span_of at from end l ≡ accepted x → Held from end x
-      go (LV.Is n k) p q =
+      go : (l : Option L.Length) → length_at (between from end s) ≡ l → span_of at from end l ≡ accepted x → Held from end x
+      go (Some read) p q =
+          let n = read.value in
+          let k = read.size in
           let h = Length.inside (between from end s) (octets_between s o from end) p in
           let (t, r) = passed (leb (from + k + n) end) _ at q in
           let i = leb-true (from + k + n) end t in
           let y : span (from + k) (from + k + n) ≡ x = cc in
           rw (← y) (record { behind = omega arith; ordered = omega arith; inside = i })
-      go LV.Wrong p q = let z : ◌≡◌ {A = ℕ} 0 1 = cc in absurd (omega arith)
+      go None p q = let z : ◌≡◌ {A = ℕ} 0 1 = cc in absurd (omega arith)
 
   pub wanted_inside : (octet number : ℕ) {at end : ℕ} {x : Span} → wanted s octet number at end ≡ accepted x → Held (suc at) end x
   unfolding wanted
@@ -86,16 +72,3 @@ module _ (s : Octets) (o : AreOctets s) where
   unfolding code_at
   code_inside uncoded {at} {end} {x} h e = let y : span at at ≡ x = cc in rw (← y) (omega arith)
   code_inside (coded octet number family size) h e = let i = coded_inside octet number family size e in (omega arith, i.ordered, i.inside)
-
-  pub parameter_inside : {at end : ℕ} {e : Entry} → parameter_at s at end ≡ accepted e → Placed at end e
-  unfolding parameter_at parameter
-  parameter_inside {at} {end} {e} p = go (identifier_at (between at end s)) refl p
-    where
-      go : (i : I.Identifier) → identifier_at (between at end s) ≡ i → parameter s at end i ≡ accepted e → Placed at end e
-      go (IV.Is number form k) q r =
-          let b = Identifier.inside (between at end s) (octets_between s o at end) q in
-          let (x, g, y) = taken (contents s at (at + k) end) r in
-          let z : record { number = number; form = form; place = at; start = x.start; size = size_of x } ≡ e = cc in
-          let i = inside at g in
-          rw (← z) (record { behind = omega arith; inside = omega arith })
-      go IV.IllFormed q r = let z : ◌≡◌ {A = ℕ} 0 1 = cc in absurd (omega arith)

@@ -3,7 +3,6 @@ use Prim.Native.Nat.{ℕ, zero, suc, ◌+◌, ◌<◌, ◌≤◌}
 use mathlib.Core.Path.{◌≡◌}
 use mathlib.Core.List.{List}
 use lib.ListN.{length, get_or}
-use lib.Dec.{ltb, leb}
 use borrow.Author.Tests.{le-leb, lt-ltb}
 use native.Mathlib.Omega.{arith}
 use Rattle.element.specs.Octets.{Octets, AreOctets}
@@ -14,8 +13,7 @@ use Rattle.component.specs.Table.{Entry, next}
 use Rattle.component.specs.Layout.{Span, size_of, contents, wanted, element_from, wanted_from, set_at, Head, code_at, behind_id, body_at, head_from, head_at, parameter_at, parameter_from, parameters, Layout, layout_behind, layout_at}
 use Rattle.component.proofs.Ends.{Ends, gives, given, then, ask, below, at_most, equal}
 use Rattle.component.proofs.Asking.{Any, any}
-use Rattle.component.proofs.Taken.{passed}
-use Rattle.component.proofs.Inside.{Placed, wanted_inside, set_inside, code_inside, parameter_inside}
+use Rattle.component.proofs.Inside.{wanted_inside, set_inside, code_inside}
 use Rattle.component.proofs.Typing.{is_known, fitting, most_two}
 
 -- where the parts of a head stand: at most two ID octets, the code with an octet behind it, and the set
@@ -44,10 +42,6 @@ wanted_within s octet number at h = simp (le-leb (length s) 4096)
 pub parameter_within : (s : Octets) (at : ℕ) → length s ≤ 4096 → at < length s → parameter_from s at ≡ parameter_at s at (length s)
 unfolding parameter_from
 parameter_within s at h k = simp (le-leb (length s) 4096, lt-ltb at (length s))
-
-pub parameter_placed : (s : Octets) → AreOctets s → {at : ℕ} {e : Entry} → parameter_from s at ≡ accepted e → Placed at (length s) e
-unfolding parameter_from
-parameter_placed s o {at} q = parameter_inside s o (passed (ltb at (length s)) _ (length s) (passed (leb (length s) 4096) 2 0 q).1).1
 
 -- ---- no more parameters than there is room for
 parameters_few : (s : Octets) (end room at : ℕ) → Ends (λ es. length es ≤ room) Any (parameters room s at end)
@@ -100,9 +94,6 @@ module _ (s : Octets) (o : AreOctets s) where
 
     pub ordered : {l : Layout} → layout_at s from ≡ accepted l → Ordered s l
     ordered e = given layout_ends e
-
-    pub bounds : {h : Head} → head_at s from ≡ accepted h → Bounded s h
-    bounds e = given head_ends e
 
     -- by the head that was found, and the parameters behind it
     module _ {h : Head} (e : accepted h ≡ head_at s from) where

@@ -2,7 +2,6 @@ pub mod Composable
 pub mod Typing
 pub mod Shown
 pub mod Parts
-pub mod Fitting
 pub mod Ends
 pub mod Inside
 pub mod Refusing
@@ -18,7 +17,6 @@ pub mod Putting
 pub mod Composition
 pub mod Sizing
 pub mod Counting
-pub mod Counted
 pub mod Measuring
 pub mod Emission
 pub mod Outcome

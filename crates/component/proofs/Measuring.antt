@@ -1,17 +1,17 @@
--- Each way out of what is measured and composed, as one law: what the tests on the way say, and the outcome; and back from an outcome.
-use Prim.Native.Nat.{ℕ, ◌*◌, ◌<◌, ◌≤◌}
+-- What is measured where the entries stand, by what they come to; and back from an outcome.
+use Prim.Native.Nat.{ℕ, ◌*◌, ◌≤◌}
 use mathlib.Core.Path.{◌≡◌, refl}
 use mathlib.Core.Bool.{Bool, true, false}
 use mathlib.Core.List.{List}
 use lib.ListN.{length}
 use lib.Dec.{leb}
-use borrow.Author.Tests.{le-leb, lt-leb, leb-true}
+use borrow.Author.Tests.{le-leb, leb-true}
 use Rattle.element.specs.Octets.{Octets}
 use Rattle.element.specs.Answer.{Answer, accepted, refused, ◌>>=◌, ◌>>◌, check}
 use Rattle.component.specs.declared.Id as D
 use Rattle.component.specs.Types.{Allowed, typed, id_fits}
 use Rattle.component.specs.Grammar.{Parameter}
-use Rattle.component.specs.Needed.{element_size, body_size, octets_needed}
+use Rattle.component.specs.Needed.{octets_needed}
 use Rattle.component.specs.Table.{width}
 use Rattle.component.specs.Composing.{entries_from, entries_of, sizes_of, measured}
 use Rattle.component.specs.inner.Emitting.{sized, measured_of}
@@ -32,44 +32,16 @@ through kind id (accepted ps) = told (leb (octets_needed kind id ps) 4096) 15 (o
 through kind id (refused n d) = refl
 
 module _ (kind : ℕ) (id : D.Id) (count : ℕ) (t : List ℕ) (source : Octets) where
-  pub no_kind : typed kind ≡ false → refused 3 0 ≡ measured kind id count t source
-  unfolding measured entries_of
-  no_kind e = simp e
-
-  module _ (known : typed kind ≡ true) where
-    pub no_id : id_fits kind id.count ≡ false → refused 6 0 ≡ measured kind id count t source
+  module _ (known : typed kind ≡ true) (fit : id_fits kind id.count ≡ true) (few : count ≤ 64) (room : width * count ≤ length t) where
+    by_entries : (sized (entries_from 0 count t source) >>= measured_of kind id.count) ≡ measured kind id count t source
     unfolding measured entries_of
-    no_id e = simp (known, e)
+    by_entries = simp (known, fit, le-leb count 64, le-leb (width * count) (length t)) (through kind id.count (entries_from 0 count t source))
 
-    module _ (fit : id_fits kind id.count ≡ true) where
-      pub too_many : 64 < count → refused 10 0 ≡ measured kind id count t source
-      unfolding measured entries_of
-      too_many h = simp (known, fit, lt-leb count 64)
+    pub no_entry : {n d : ℕ} → refused n d ≡ sized (entries_from 0 count t source) → refused n d ≡ measured kind id count t source
+    no_entry e = rw (← e) at by_entries
 
-      module _ (few : count ≤ 64) where
-        pub no_table : length t < width * count → refused 1 0 ≡ measured kind id count t source
-        unfolding measured entries_of
-        no_table h = simp (known, fit, le-leb count 64, lt-leb (width * count) (length t))
-
-        module _ (room : width * count ≤ length t) where
-          by_entries : (sized (entries_from 0 count t source) >>= measured_of kind id.count) ≡ measured kind id count t source
-          unfolding measured entries_of
-          by_entries = simp (known, fit, le-leb count 64, le-leb (width * count) (length t)) (through kind id.count (entries_from 0 count t source))
-
-          pub no_entry : {n d : ℕ} → refused n d ≡ sized (entries_from 0 count t source) → refused n d ≡ measured kind id count t source
-          no_entry e = rw (← e) at by_entries
-
-          pub by_set : {set : ℕ} → accepted set ≡ sized (entries_from 0 count t source) → measured_of kind id.count set ≡ measured kind id count t source
-          by_set e = rw (← e) at by_entries
-
-module _ (kind id set : ℕ) {whole body : ℕ} (e : whole ≡ element_size 1 body) (f : body ≡ body_size kind id set) where
-  pub too_long : 4096 < whole → refused 15 whole ≡ measured_of kind id set
-  unfolding measured_of
-  too_long h = simp (← f, ← e, lt-leb whole 4096)
-
-  pub measures : whole ≤ 4096 → accepted (record { whole = whole; body = body; set = set }) ≡ measured_of kind id set
-  unfolding measured_of
-  measures h = simp (← f, ← e, le-leb whole 4096)
+    pub by_set : {set : ℕ} → accepted set ≡ sized (entries_from 0 count t source) → measured_of kind id.count set ≡ measured kind id count t source
+    by_set e = rw (← e) at by_entries
 
 -- back from what is accepted
 module _ (kind : ℕ) (id : D.Id) (count : ℕ) (t : List ℕ) (source : Octets) where

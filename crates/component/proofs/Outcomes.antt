@@ -1,80 +1,88 @@
 -- No second outcome fits a promise: what an answer tells leads back to it. (Promises that equate the outcome itself need only
 -- `one_outcome` of element.)
 use Prim.Native.Nat.{ℕ}
-use mathlib.Core.Path.{◌≡◌, refl}
-use Rattle.element.specs.Answer.{Answer, accepted, refused}
-use Rattle.element.proofs.Outcomes.{one_told}
-use Rattle.component.specs.declared.Count as C
-use Rattle.component.specs.declared.Count.TheVariants as CV
-use Rattle.component.specs.declared.Head as H
-use Rattle.component.specs.declared.Head.TheVariants as HV
+use mathlib.Core.Path.{◌≡◌, refl, sym, ap, ◌∙◌}
+use lib.Dec.{eqb}
+use native.Mathlib.Omega.{arith}
+use Rattle.std.specs.Prelude.{Result, Ok, Err, Option, Some, None}
+use Rattle.element.specs.declared.refusal.Refusal as F
+use Rattle.element.specs.Octets.{if}
+use Rattle.element.specs.Answer.{Answer, accepted}
+use Rattle.element.specs.Told.{number_of}
+use Rattle.element.proofs.Outcomes.{one_answer, one_refusal}
 use Rattle.component.specs.declared.Span as S
-use Rattle.component.specs.declared.Span.TheVariants as SV
-use Rattle.component.specs.declared.Parameter as P
-use Rattle.component.specs.declared.Parameter.TheVariants as PV
+use Rattle.component.specs.declared.Entry as E
+use Rattle.component.specs.declared.Head as H
 use Rattle.component.specs.declared.Measured as M
-use Rattle.component.specs.declared.Measured.TheVariants as MV
+use Rattle.component.specs.declared.types.Kind as K
+use Rattle.component.specs.declared.types.Kind.TheVariants as KV
+use Rattle.component.specs.Kinds.{octet_of, Typing}
 use Rattle.component.specs.Layout.{Span, Head}
 use Rattle.component.specs.Table.{Entry}
 use Rattle.component.specs.Composing.{Sizes}
-use Rattle.component.specs.Told.{head_in, span_in, entry_in, count_in, measure_in}
+use Rattle.component.specs.Told.{head_said, head_in, span_said, span_in, wanted_in, entry_said, entry_in, count_in, sizes_said, measure_in}
 
 -- `head_from`
-abbrev head_for : Answer Head → H.Head
-head_for (accepted h) = HV.Found (record { kind = h.kind; id = h.id.start; behind = h.id.end; code = h.code; set = h.set })
-head_for (refused n d) = HV.Refused n d
+abbrev pub kind_for : ℕ → K.Kind
+kind_for octet = if (eqb octet 0xE9) KV.Invoke (if (eqb octet 0xEA) KV.Result (if (eqb octet 0xEB) KV.Error KV.Reject))
 
-same_head : (x : H.Head) → head_for (head_in x) ≡ x
-same_head (HV.Found g) = refl
-same_head (HV.Refused n d) = refl
+pub same_kind : (k : K.Kind) → kind_for (octet_of k) ≡ k
+same_kind KV.Invoke = refl
+same_kind KV.Result = refl
+same_kind KV.Error = refl
+same_kind KV.Reject = refl
 
-pub one_head : {x y : H.Head} {told : Answer Head} → head_in x ≡ told → head_in y ≡ told → x ≡ y
-one_head = one_told head_in head_for same_head
+abbrev head_for : Head → H.Head
+head_for h = record { kind = kind_for h.kind; id = record { start = h.id.start; end = h.id.end }; code = h.code; set = h.set }
 
--- `element_from`, `wanted_from`
-abbrev span_for : Answer Span → S.Span
-span_for (accepted x) = SV.Found x.start x.end
-span_for (refused n d) = SV.Refused n d
+same_head : (h : H.Head) → head_for (head_said h) ≡ h
+same_head h = ap (λ kind. record { kind = kind; id = h.id; code = h.code; set = h.set }) (same_kind h.kind)
 
-same_span : (x : S.Span) → span_for (span_in x) ≡ x
-same_span (SV.Found start end) = refl
-same_span (SV.Refused n d) = refl
+pub one_head : {x y : Result H.Head F.Refusal} {told : Answer Head} → head_in x ≡ told → head_in y ≡ told → x ≡ y
+one_head = one_answer head_said head_for same_head
 
-pub one_span : {x y : S.Span} {told : Answer Span} → span_in x ≡ told → span_in y ≡ told → x ≡ y
-one_span = one_told span_in span_for same_span
+-- `element_from`
+pub one_span : {x y : Result S.Span F.Refusal} {told : Answer Span} → span_in x ≡ told → span_in y ≡ told → x ≡ y
+one_span = one_answer span_said (λ x. record { start = x.start; end = x.end }) (λ _. refl)
 
 -- `parameter_from`
-abbrev parameter_for : Answer Entry → P.Parameter
-parameter_for (accepted e) = PV.Found e.number e.form e.start e.size
-parameter_for (refused n d) = PV.Refused n d
-
-same_parameter : (at : ℕ) (x : P.Parameter) → parameter_for (entry_in at x) ≡ x
-same_parameter at (PV.Found number form start size) = refl
-same_parameter at (PV.Refused n d) = refl
-
-pub one_parameter : (at : ℕ) {x y : P.Parameter} {told : Answer Entry} → entry_in at x ≡ told → entry_in at y ≡ told → x ≡ y
-one_parameter at = one_told (entry_in at) parameter_for (same_parameter at)
+pub one_parameter : {x y : Result E.Entry F.Refusal} {told : Answer Entry} → entry_in x ≡ told → entry_in y ≡ told → x ≡ y
+one_parameter =
+    one_answer entry_said (λ e. record { number = e.number; form = e.form; start = e.start; size = e.size; place = e.place }) (λ _. refl)
 
 -- `compose`
-abbrev count_for : Answer ℕ → C.Count
-count_for (accepted n) = CV.Of n
-count_for (refused n d) = CV.Refused n d
-
-same_count : (x : C.Count) → count_for (count_in x) ≡ x
-same_count (CV.Of n) = refl
-same_count (CV.Refused n d) = refl
-
-pub one_count : {x y : C.Count} {told : Answer ℕ} → count_in x ≡ told → count_in y ≡ told → x ≡ y
-one_count = one_told count_in count_for same_count
+pub one_count : {x y : Result ℕ F.Refusal} {told : Answer ℕ} → count_in x ≡ told → count_in y ≡ told → x ≡ y
+one_count = one_answer (λ n. n) (λ n. n) (λ _. refl)
 
 -- `measure`
-abbrev measure_for : Answer Sizes → M.Measured
-measure_for (accepted s) = MV.Octets s.whole s.body s.set
-measure_for (refused n d) = MV.Refused n d
+pub one_measure : {x y : Result M.Measured F.Refusal} {told : Answer Sizes} → measure_in x ≡ told → measure_in y ≡ told → x ≡ y
+one_measure = one_answer sizes_said (λ z. record { whole = z.whole; body = z.body; set = z.set }) (λ _. refl)
 
-same_measure : (x : M.Measured) → measure_for (measure_in x) ≡ x
-same_measure (MV.Octets w b s) = refl
-same_measure (MV.Refused n d) = refl
+inner : {x y : Span} → accepted x ≡ accepted y → x ≡ y
+inner e = cc
 
-pub one_measure : {x y : M.Measured} {told : Answer Sizes} → measure_in x ≡ told → measure_in y ≡ told → x ≡ y
-one_measure = one_told measure_in measure_for same_measure
+-- `wanted_from`: an octet that is another one is refused by whatever number, and what is refused is so by one
+pub one_wanted : (at : ℕ) (x y : Result (Option S.Span) F.Refusal) {told : ℕ → Answer Span} →
+    ((n : ℕ) → wanted_in n at x ≡ told n) → ((n : ℕ) → wanted_in n at y ≡ told n) → x ≡ y
+one_wanted at (Ok (Some a)) (Ok (Some b)) p q =
+    let e = inner (p 0 ∙ sym (q 0)) in
+    ap (λ x. Ok (Some (record { start = x.start; end = x.end }))) e
+one_wanted at (Ok None) (Ok None) p q = refl
+one_wanted at (Err a) (Err b) p q =
+    let e = p 0 ∙ sym (q 0) in
+    let n : number_of a.reason ≡ number_of b.reason = cc in
+    let d : a.detail ≡ b.detail = cc in
+    ap Err (one_refusal n d)
+one_wanted at (Ok (Some a)) (Ok None) p q = let e = p 0 ∙ sym (q 0) in let z : ◌≡◌ {A = ℕ} 0 1 = cc in absurd (omega arith)
+one_wanted at (Ok (Some a)) (Err b) p q = let e = p 0 ∙ sym (q 0) in let z : ◌≡◌ {A = ℕ} 0 1 = cc in absurd (omega arith)
+one_wanted at (Ok None) (Ok (Some b)) p q = let e = p 0 ∙ sym (q 0) in let z : ◌≡◌ {A = ℕ} 0 1 = cc in absurd (omega arith)
+one_wanted at (Err a) (Ok (Some b)) p q = let e = p 0 ∙ sym (q 0) in let z : ◌≡◌ {A = ℕ} 0 1 = cc in absurd (omega arith)
+one_wanted at (Ok None) (Err b) p q = let e = p 0 ∙ sym (q 0) in let f = p 1 ∙ sym (q 1) in let z : ◌≡◌ {A = ℕ} 0 1 = cc in absurd (omega arith)
+one_wanted at (Err a) (Ok None) p q = let e = p 0 ∙ sym (q 0) in let f = p 1 ∙ sym (q 1) in let z : ◌≡◌ {A = ℕ} 0 1 = cc in absurd (omega arith)
+
+-- `Kind::try_from`
+pub one_kind : (octet : ℕ) (x y : Result K.Kind F.Refusal) → Typing octet x → Typing octet y → x ≡ y
+one_kind octet (Ok a) (Ok b) (p, _) (q, _) = ap Ok (sym (same_kind a) ∙ ap kind_for (p ∙ sym q) ∙ same_kind b)
+one_kind octet (Err a) (Err b) (p, _) (q, _) = ap Err (p ∙ sym q)
+one_kind octet (Ok a) (Err b) (_, p) (_, q) = let z : ◌≡◌ {A = ℕ} 0 1 = cc in absurd (omega arith)
+one_kind octet (Err a) (Ok b) (_, p) (_, q) = let z : ◌≡◌ {A = ℕ} 0 1 = cc in absurd (omega arith)

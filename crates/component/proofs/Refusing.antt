@@ -10,10 +10,9 @@ use borrow.Author.Tests.{lt-ltb, le-ltb, le-leb, lt-leb, eq-eqb, ne_eqb}
 use native.Mathlib.Nat.{add-zero, zero-add}
 use native.Mathlib.Decide.{ℕ_discrete}
 use native.Mathlib.Omega.{arith}
+use Rattle.std.specs.Prelude.{Option, Some, None}
 use Rattle.element.specs.declared.Length as L
-use Rattle.element.specs.declared.Length.TheVariants as LV
 use Rattle.element.specs.declared.Identifier as I
-use Rattle.element.specs.declared.Identifier.TheVariants as IV
 use Rattle.element.specs.Octets.{Octets, AreOctets, between}
 use Rattle.element.specs.Answer.{Answer, accepted, refused, ◌>>=◌, ◌>>◌, check}
 use Rattle.element.specs.Decoded.{length_at, identifier_at}
@@ -28,19 +27,19 @@ use Rattle.component.proofs.Typing.{known, unknown, fits, misfits}
 use Rattle.component.proofs.Deciding.{ask}
 
 -- ---- no field and no identifier are read where none begins
-wrong : {s : Octets} → AreOctets s → NoField s → length_at s ≡ LV.Wrong
+wrong : {s : Octets} → AreOctets s → NoField s → length_at s ≡ None
 wrong {s} o h = go (length_at s) refl
   where
-    go : (l : L.Length) → length_at s ≡ l → l ≡ LV.Wrong
-    go (LV.Is n k) e = absurd (h n (take k s) (drop k s) (Length.sound s o e).0 (sym (take-append-drop k s)))
-    go LV.Wrong e = refl
+    go : (l : Option L.Length) → length_at s ≡ l → l ≡ None
+    go (Some read) e = absurd (h read.value (take read.size s) (drop read.size s) (Length.sound s o e).0 (sym (take-append-drop read.size s)))
+    go None e = refl
 
-ill_formed : {s : Octets} → AreOctets s → NoIdentifier s → identifier_at s ≡ IV.IllFormed
+ill_formed : {s : Octets} → AreOctets s → NoIdentifier s → identifier_at s ≡ None
 ill_formed {s} o h = go (identifier_at s) refl
   where
-    go : (i : I.Identifier) → identifier_at s ≡ i → i ≡ IV.IllFormed
-    go (IV.Is n f k) e = absurd (h n f (take k s) (drop k s) (Identifier.sound s o e).0 (sym (take-append-drop k s)))
-    go IV.IllFormed e = refl
+    go : (i : Option I.Identifier) → identifier_at s ≡ i → i ≡ None
+    go (Some read) e = absurd (h read.number read.form (take read.size s) (drop read.size s) (Identifier.sound s o e).0 (sym (take-append-drop read.size s)))
+    go None e = refl
 
 module _ (s : Octets) where
   -- `t` is what is left from `at` on

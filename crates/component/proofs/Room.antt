@@ -1,31 +1,30 @@
 -- The parameters that are put down as far as they stand and find room: what is left of them from an entry on, and that they are all
 -- where all stand and there is room for all.
 use Prim.Native.Nat.{ℕ, zero, suc, ◌+◌, ◌-◌, ◌<◌, ◌≤◌}
-use mathlib.Core.Path.{◌≡◌, refl, ◌∙◌}
-use mathlib.Core.Bool.{true, false, and-false}
+use mathlib.Core.Path.{◌≡◌, refl, sym, ◌∙◌}
+use mathlib.Core.Bool.{Bool, true, false, and-false}
 use mathlib.Core.List.{List, [], ◌++◌}
-use lib.ListN.{length, take, drop}
+use lib.ListN.{length}
 use borrow.Author.Tests.{le-leb, lt-leb}
 use native.Mathlib.Omega.{arith}
 use native.Mathlib.Nat.{add-zero, sub-zero}
-use Rattle.element.specs.Octets.{Octets}
-use Rattle.element.specs.Identifier.{identifier, identifier_size}
+use Rattle.std.specs.Prelude.{Some, None}
+use Rattle.std.proofs.lemmas.Option.{same_Some, none-some}
+use Rattle.element.specs.Octets.{Octets, if}
+use Rattle.element.specs.Identifier.{identifier_size}
 use Rattle.element.proofs.LengthLaws as L
 use Rattle.element.proofs.IdentifierLaws as I
-use Rattle.component.specs.Composed.{element, set_of}
+use Rattle.component.specs.Composed.{set_of}
 use Rattle.component.specs.Needed.{element_size, set_size}
 use Rattle.component.specs.Table.{Entry, held, held_from, EntryStands, parameter_of, parameters_from}
 use Rattle.component.specs.Composing.{entry_stands}
-use Rattle.component.specs.inner.Emitting.{Put, finds_room, fitting}
+use Rattle.component.specs.inner.Emitting.{Put, octets_at, size_in, finds_room, fitting}
 use Rattle.component.proofs.Putting.{part_length, Left, goes_on}
 use Rattle.component.proofs.Counting.{entry_size}
 use Rattle.component.proofs.Sizes.{element_length}
-use Rattle.component.proofs.Entries.{stands, stands_true, stands_false}
+use Rattle.component.proofs.Entries.{stands, stands_true}
 
--- the octets of an entry's parameter, and how many they are
-abbrev pub octets_at : (source : Octets) → Entry → Octets
-octets_at source e = element (identifier e.number e.form) (take e.size (drop e.start source))
-
+-- how many octets an entry's parameter has
 abbrev pub size_at : Entry → ℕ
 size_at e = element_size (identifier_size e.number) e.size
 
@@ -44,13 +43,29 @@ module _ (source : Octets) (room : ℕ) (e : Entry) where
   unfolding finds_room
   finds s h = rw (stands_true s, le-leb (size_at e) room h) refl
 
-  stands_not : (EntryStands source e → ⊥) → finds_room source room e ≡ false
+  stands_not : entry_stands source e ≡ false → finds_room source room e ≡ false
   unfolding finds_room
-  stands_not n = rw (stands_false n) refl
+  stands_not f = rw f refl
 
   too_long : room < size_at e → finds_room source room e ≡ false
   unfolding finds_room
   too_long h = rw (lt-leb (size_at e) room h) (and-false (entry_stands source e))
+
+-- ---- an entry by its octets, where it has any
+module _ (source : Octets) (e : Entry) where
+  pub stands_with : {n : ℕ} → Some n ≡ size_in source e → EntryStands source e × (n ≡ size_at e)
+  stands_with {n} = go (entry_stands source e) refl
+    where
+      go : (b : Bool) → entry_stands source e ≡ b → Some n ≡ if b (Some (size_at e)) None → EntryStands source e × (n ≡ size_at e)
+      go true f g = (stands f, same_Some _ _ g)
+      go false f g = absurd (none-some _ (sym g))
+
+  pub stands_none : None ≡ size_in source e → entry_stands source e ≡ false
+  stands_none = go (entry_stands source e) refl
+    where
+      go : (b : Bool) → entry_stands source e ≡ b → None ≡ if b (Some (size_at e)) None → entry_stands source e ≡ false
+      go true f g = absurd (none-some _ g)
+      go false f g = f
 
 -- ---- what is left from entry `i` on
 unfoldable pub rest : (count : ℕ) (table : List ℕ) (source : Octets) (room i : ℕ) → Octets
@@ -73,8 +88,8 @@ module _ (count : ℕ) (t : List ℕ) (source : Octets) (room : ℕ) where
     unfolding rest held_from fitting
     stopped e = rw more (simp e)
 
-    pub no_stand : (EntryStands source (held t i) → ⊥) → rest count t source room i ≡ []
-    no_stand n = stopped (stands_not _ _ _ n)
+    pub no_stand : entry_stands source (held t i) ≡ false → rest count t source room i ≡ []
+    no_stand e = stopped (stands_not _ _ _ e)
 
     pub no_room : room < size_at (held t i) → rest count t source room i ≡ []
     no_room k = stopped (too_long _ _ _ k)

@@ -9,10 +9,9 @@ use lib.Dec.{ltb, leb, eqb}
 use borrow.Author.Tests.{lt-ltb, le-ltb, le-leb, lt-leb, eq-eqb, ne_eqb, ltb-true, ltb-false, leb-true, leb-false, eqb-true, eqb-false}
 use native.Mathlib.Omega.{arith}
 use native.Mathlib.Nat.{add-zero}
+use Rattle.std.specs.Prelude.{Option, Some, None}
 use Rattle.element.specs.declared.Length as L
-use Rattle.element.specs.declared.Length.TheVariants as LV
 use Rattle.element.specs.declared.Identifier as I
-use Rattle.element.specs.declared.Identifier.TheVariants as IV
 use Rattle.element.specs.Octets.{Octets, if, between}
 use Rattle.element.specs.Answer.{Answer, accepted, refused, ◌>>=◌, ◌>>◌, check}
 use Rattle.element.specs.Decoded.{length_at, identifier_at}
@@ -102,13 +101,15 @@ module _ (pre c : Octets) where
     behind : from ≤ x.start
     ordered : x.start ≤ x.end
 
-  spans : (at from end : ℕ) (l : L.Length) → On n (SpanOn from) (span_of at from end l) (span_of (n + at) (n + from) (n + end) l)
+  spans : (at from end : ℕ) (l : Option L.Length) → On n (SpanOn from) (span_of at from end l) (span_of (n + at) (n + from) (n + end) l)
   unfolding span_of
-  spans at from end (LV.Is value octets) =
+  spans at from end (Some read) =
+      let value = read.value in
+      let octets = read.size in
       let p : n + from + octets ≡ n + (from + octets) = omega arith in
       let q : n + (from + octets) + value ≡ n + (from + octets + value) = omega arith in
       rw (p, q) (ask _ (leb_on n (from + octets + value) end) (there refl) (both (record { is = refl; behind = omega arith; ordered = omega arith })))
-  spans at from end LV.Wrong = stop (there refl)
+  spans at from end None = stop (there refl)
 
   contents_on : (at from end : ℕ) → On n (SpanOn from) (contents c at from end) (contents s (n + at) (n + from) (n + end))
   unfolding contents
@@ -162,12 +163,15 @@ module _ (pre c : Octets) where
       (then (code_on (coding_of kind) (points kind) i.end x.end) λ d d' b.
       rw b.is (then (set_on d.end x.end) λ f f' e. both (record { is = rw e refl; points = omega (arith, a.behind, a.ordered, b.behind) }))))
 
-  parameter_on : (at end : ℕ) (i : I.Identifier) → On n (By (entry_on n)) (parameter c at end i) (parameter s (n + at) (n + end) i)
+  parameter_on : (at end : ℕ) (i : Option I.Identifier) → On n (By (entry_on n)) (parameter c at end i) (parameter s (n + at) (n + end) i)
   unfolding parameter
-  parameter_on at end (IV.Is number form octets) =
+  parameter_on at end (Some read) =
+      let number = read.number in
+      let form = read.form in
+      let octets = read.size in
       let p : n + at + octets ≡ n + (at + octets) = omega arith in
       rw p (then (contents_on at (at + octets) end) λ x y e. both (rw (e.is, less_on n x.end x.start) refl))
-  parameter_on at end IV.IllFormed = stop (there refl)
+  parameter_on at end None = stop (there refl)
 
   parameter_at_on : (at end : ℕ) → On n (By (entry_on n)) (parameter_at c at end) (parameter_at s (n + at) (n + end))
   unfolding parameter_at

@@ -1,10 +1,10 @@
 -- The four formats: what holds of each holds of a type's; and the tests of a type and of its ID octets say what the words
 -- say.
-use Prim.Native.Nat.{ℕ, zero, suc, ◌<◌, ◌≤◌}
+use Prim.Native.Nat.{ℕ, ◌<◌, ◌≤◌}
 use mathlib.Core.Path.{◌≡◌, refl}
 use mathlib.Core.Bool.{Bool, true, false, ◌&&◌, and-eq-true_iff}
 use lib.Dec.{leb, eqb}
-use borrow.Author.Tests.{le-leb, lt-leb, leb-true, ne_eqb}
+use borrow.Author.Tests.{le-leb, leb-true, ne_eqb}
 use native.Mathlib.Decide.{dec_lt}
 use native.Mathlib.Omega.{arith}
 use Rattle.element.specs.Octets.{if}
@@ -23,6 +23,14 @@ of_each P invoke result error reject kind = go (eqb kind 0xE9) (eqb kind 0xEB) (
 pub result : (kind : ℕ) → (kind ≡ 0xE9 → ⊥) → (kind ≡ 0xEB → ⊥) → (kind ≡ 0xEC → ⊥) → format_of kind ≡ RESULT
 unfolding format_of
 result kind h k l = simp (ne_eqb kind 0xE9, ne_eqb kind 0xEB, ne_eqb kind 0xEC)
+
+-- what is no type has the format of a RESULT, which asks nothing behind the ID
+pub untyped : (kind : ℕ) → typed kind ≡ false → format_of kind ≡ RESULT
+unfolding typed
+untyped kind e = result kind (λ f. apart f refl) (λ f. apart f refl) (λ f. apart f refl)
+  where
+    apart : {octet : ℕ} → kind ≡ octet → (leb 0xE9 octet && leb octet 0xEC) ≡ true → ⊥
+    apart f g = let z : ◌≡◌ {A = ℕ} 0 1 = cc in absurd (omega arith)
 
 -- the same of the types' octets
 pub of_typed : (P : ℕ → Type 0) → P 0xE9 → P 0xEA → P 0xEB → P 0xEC → (kind : ℕ) → Typed kind → P kind
@@ -68,6 +76,12 @@ module _ {kind : ℕ} where
   unfolding typed
   unknown n = not_within 0xE9 kind 0xEC n
 
+pub not_typed : {kind : ℕ} → typed kind ≡ false → Typed kind → ⊥
+not_typed e t =
+    let f = known t in
+    let z : ◌≡◌ {A = ℕ} 0 1 = cc in
+    absurd (omega arith)
+
 pub is_known : (kind : ℕ) → typed kind ≡ true → Typed kind
 unfolding typed
 is_known kind e = between 0xE9 kind 0xEC e
@@ -89,33 +103,3 @@ module _ (kind size : ℕ) where
 
   pub allowed : typed kind ≡ true → id_fits kind size ≡ true → Allowed kind size
   allowed e f = let (h, k) = fitting f in (is_known kind e, h, k)
-
-  -- one in each type, at most two in an INVOKE, none in a REJECT
-  pub one_fits : size ≡ 1 → true ≡ id_fits kind size
-  unfolding id_fits
-  one_fits e = rw e (of_each (λ f. true ≡ leb f.fewest 1 && leb 1 f.most) refl refl refl refl kind)
-
-  pub invoke_fits : kind ≡ 0xE9 → leb size 2 ≡ id_fits kind size
-  unfolding id_fits format_of
-  invoke_fits e = rw e (simp (le-leb 0 size (omega arith)))
-
-  module _ (n : size ≡ 1 → ⊥) where
-    pub reject_fits : kind ≡ 0xEC → eqb size 0 ≡ id_fits kind size
-    unfolding id_fits format_of
-    reject_fits e = rw e (none size n)
-      where
-        none : (m : ℕ) → (m ≡ 1 → ⊥) → eqb m 0 ≡ (leb 0 m && leb m 1)
-        none zero k = refl
-        none (suc m) k = simp (ne_eqb (suc m) 0 (omega arith), lt-leb (suc m) 1 (omega arith), le-leb 0 (suc m) (omega arith))
-
-    pub none_fits : (kind ≡ 0xE9 → ⊥) → (kind ≡ 0xEC → ⊥) → false ≡ id_fits kind size
-    unfolding id_fits format_of
-    none_fits h k = simp (ne_eqb kind 0xE9 h, ne_eqb kind 0xEC k) (go (eqb kind 0xEB))
-      where
-        not_one : (m : ℕ) → (m ≡ 1 → ⊥) → false ≡ (leb 1 m && leb m 1)
-        not_one zero l = refl
-        not_one (suc m) l = simp (le-leb 1 (suc m) (omega arith), lt-leb (suc m) 1 (omega arith))
-
-        go : (t : Bool) → false ≡ (leb (if t ERROR RESULT).fewest size && leb size (if t ERROR RESULT).most)
-        go true = not_one size n
-        go false = not_one size n

@@ -1,10 +1,8 @@
 -- The layout of one component, as the reader decides it from left to right.
-use Rattle.std.specs.Prelude.{ℕ, zero, suc, ◌+◌, ◌-◌, Bool, ◌||◌, not, List, [], ◌∷◌, length, get_or, take}
+use Rattle.std.specs.Prelude.{ℕ, Option, Some, None, zero, suc, ◌+◌, ◌-◌, Bool, ◌||◌, not, List, [], ◌∷◌, length, get_or, take}
 use Rattle.std.specs.Prelude.{drop, ltb, leb, eqb}
 use Rattle.element.specs.declared.Length as L
-use Rattle.element.specs.declared.Length.TheVariants as LV
 use Rattle.element.specs.declared.Identifier as I
-use Rattle.element.specs.declared.Identifier.TheVariants as IV
 use Rattle.element.specs.Octets.{Octets, if, between}
 use Rattle.element.specs.Answer.{Answer, accepted, refused, ◌>>=◌, ◌>>◌, check}
 use Rattle.element.specs.Decoded.{length_at, identifier_at}
@@ -23,11 +21,11 @@ span start end = record { start = start; end = end }
 abbrev pub size_of : Span → ℕ
 size_of x = x.end - x.start
 
-unfoldable pub span_of : (at from end : ℕ) → L.Length → Answer Span
-span_of at from end (LV.Is value octets) = do
-  check (leb (from + octets + value) end) component.extent at
-  accepted (span (from + octets) (from + octets + value))
-span_of at from end LV.Wrong = refused component.field from
+unfoldable pub span_of : (at from end : ℕ) → Option L.Length → Answer Span
+span_of at from end (Some l) = do
+  check (leb (from + l.size + l.value) end) component.extent at
+  accepted (span (from + l.size) (from + l.size + l.value))
+span_of at from end None = refused component.field from
 
 -- the contents of the element at `at`, whose length field stands at `from`, in a parent that ends at `end`
 unfoldable pub contents : Octets → (at from end : ℕ) → Answer Span
@@ -112,11 +110,11 @@ abbrev pub head_of : Octets → Answer Head
 head_of s = head_at s 0
 
 -- ---- parameters
-unfoldable pub parameter : Octets → (at end : ℕ) → I.Identifier → Answer Entry
-parameter s at end (IV.Is number form octets) = do
-  x ← contents s at (at + octets) end
-  accepted (record { number = number; form = form; place = at; start = x.start; size = size_of x })
-parameter s at end IV.IllFormed = refused 9 at
+unfoldable pub parameter : Octets → (at end : ℕ) → Option I.Identifier → Answer Entry
+parameter s at end (Some i) = do
+  x ← contents s at (at + i.size) end
+  accepted (record { number = i.number; form = i.form; place = at; start = x.start; size = size_of x })
+parameter s at end None = refused 9 at
 
 unfoldable pub parameter_at : Octets → (at end : ℕ) → Answer Entry
 parameter_at s at end = parameter s at end (identifier_at (between at end s))

@@ -10,5 +10,6 @@ pub mod Part
 pub mod Layout
 pub mod Onward
 pub mod Composing
+pub mod Kinds
 pub mod Told
 pub mod inner

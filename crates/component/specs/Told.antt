@@ -1,43 +1,46 @@
--- What each case of an answer says: its values, or the paper's number and detail.
-use Rattle.std.specs.Prelude.{ℕ}
+-- What each answer says: its values, or the paper's number and detail.
+use Rattle.std.specs.Prelude.{ℕ, Option, Some, None, Result, Ok, Err}
+use Rattle.element.specs.declared.refusal.Refusal as F
 use Rattle.element.specs.Answer.{Answer, accepted, refused}
+use Rattle.element.specs.Told.{number_of, told}
 use Rattle.component.specs.declared.Span as S
-use Rattle.component.specs.declared.Span.TheVariants as SV
-use Rattle.component.specs.declared.Parameter as P
-use Rattle.component.specs.declared.Parameter.TheVariants as PV
-use Rattle.component.specs.declared.Count as C
-use Rattle.component.specs.declared.Count.TheVariants as CV
+use Rattle.component.specs.declared.Entry as E
 use Rattle.component.specs.declared.Head as H
-use Rattle.component.specs.declared.Head.TheVariants as HV
-use Rattle.component.specs.declared.Heading as G
 use Rattle.component.specs.declared.Measured as M
-use Rattle.component.specs.declared.Measured.TheVariants as MV
+use Rattle.component.specs.Kinds.{octet_of}
 use Rattle.component.specs.Layout.{Span, span, Head}
 use Rattle.component.specs.Table.{Entry}
 use Rattle.component.specs.Composing.{Sizes}
 
-abbrev pub span_in : S.Span → Answer Span
-span_in (SV.Found start end) = accepted (record { start = start; end = end })
-span_in (SV.Refused n d) = refused n d
+abbrev pub span_said : S.Span → Span
+span_said x = span x.start x.end
 
--- a parameter that stands at `at`
-abbrev pub entry_in : (at : ℕ) → P.Parameter → Answer Entry
-entry_in at (PV.Found number form start size) =
-    accepted (record { number = number; form = form; place = at; start = start; size = size })
-entry_in at (PV.Refused n d) = refused n d
+abbrev pub span_in : Result S.Span F.Refusal → Answer Span
+span_in r = told span_said r
 
-abbrev pub count_in : C.Count → Answer ℕ
-count_in (CV.Of n) = accepted n
-count_in (CV.Refused n d) = refused n d
+-- of an element that is wanted by its first octet: none where another octet stands at `at`, which `number` refuses
+abbrev pub wanted_in : (number at : ℕ) → Result (Option S.Span) F.Refusal → Answer Span
+wanted_in number at (Ok (Some x)) = accepted (span_said x)
+wanted_in number at (Ok None) = refused number at
+wanted_in number at (Err r) = refused (number_of r.reason) r.detail
 
--- the octets of the component ID go from `id` to `behind`
-abbrev pub head_said : G.Heading → Head
-head_said h = record { kind = h.kind; id = span h.id h.behind; code = h.code; set = h.set }
+abbrev pub entry_said : E.Entry → Entry
+entry_said e = record { number = e.number; form = e.form; place = e.place; start = e.start; size = e.size }
 
-abbrev pub head_in : H.Head → Answer Head
-head_in (HV.Found heading) = accepted (head_said heading)
-head_in (HV.Refused n d) = refused n d
+abbrev pub entry_in : Result E.Entry F.Refusal → Answer Entry
+entry_in r = told entry_said r
 
-abbrev pub measure_in : M.Measured → Answer Sizes
-measure_in (MV.Octets whole body set) = accepted (record { whole = whole; body = body; set = set })
-measure_in (MV.Refused n d) = refused n d
+abbrev pub count_in : Result ℕ F.Refusal → Answer ℕ
+count_in r = told (λ n. n) r
+
+abbrev pub head_said : H.Head → Head
+head_said h = record { kind = octet_of h.kind; id = span_said h.id; code = h.code; set = h.set }
+
+abbrev pub head_in : Result H.Head F.Refusal → Answer Head
+head_in r = told head_said r
+
+abbrev pub sizes_said : M.Measured → Sizes
+sizes_said z = record { whole = z.whole; body = z.body; set = z.set }
+
+abbrev pub measure_in : Result M.Measured F.Refusal → Answer Sizes
+measure_in r = told sizes_said r

@@ -1,3 +1,2 @@
-pub mod Bodied
 pub mod Emitting
-pub mod Entered
+pub mod Within

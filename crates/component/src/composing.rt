@@ -1,21 +1,14 @@
 // The octets of a component, counted and composed.
-ghost use Rattle.std.specs.Prelude.{◌≡◌, ◌&&◌, [], ◌∷◌, ◌+◌, ◌*◌, ◌-◌, ◌≤◌, ◌<◌, length, take, drop, leb};
-ghost use Rattle.element.specs.Octets.{if};
+ghost use Rattle.std.specs.Prelude.{◌≡◌, [], ◌∷◌, ◌+◌, ◌*◌, ◌-◌, ◌≤◌, ◌<◌, length, take, drop};
 ghost use Rattle.element.specs.Length.{shortest};
-ghost use Rattle.element.specs.Identifier.{identifier, identifier_size};
+ghost use Rattle.element.specs.Identifier.{identifier};
 ghost use Rattle.element.specs.Encoded.{octets_in};
 ghost use Rattle.component.specs.Types.{coding_of};
 ghost use Rattle.component.specs.Composed.{element, set_of};
-ghost use Rattle.component.specs.Part.{fits};
 ghost use Rattle.component.specs.Needed.{element_size, coding_size, body_size};
-ghost use Rattle.component.specs.Composing.{
-  entry_stands,
-  entries_from,
-  measured,
-  composing,
-};
+ghost use Rattle.component.specs.Composing.{entries_from, measured, composing};
 ghost use Rattle.element.specs.Output.{written, output_after};
-ghost use Rattle.component.specs.Table.{width, held, held_from, parameters_from};
+ghost use Rattle.component.specs.Table.{width, held, held_from, EntryStands, parameters_from};
 ghost use Rattle.component.specs.inner.Emitting.{
   Put,
   coded_octets,
@@ -24,61 +17,42 @@ ghost use Rattle.component.specs.inner.Emitting.{
   sized,
   measured_of,
   at_most,
+  octets_at,
+  size_in,
   fitting,
   laid,
 };
-ghost use Rattle.component.specs.Told.{count_in, measure_in};
+ghost use Rattle.component.specs.Told.{entry_said, count_in, measure_in};
 
-use super::types::{id_fits, is_typed};
-use super::{Code, Count, Id, Measured, WIDTH};
-use element::Field;
+use super::{Code, Entry, Id, Kind, Measured, WIDTH};
+use element::{Field, Reason, Refusal};
 
 // The octets that a component would take: the writer's refusals that need neither a row nor the output.
-pub fn measure(kind: u8, id: Id, count: usize, table: &[u16], source: &[u8]) -> Measured
+#[tactic(auto, unfolding(crate::specs::Composing::measured, crate::specs::Composing::entries_of))]
+pub fn measure(
+    kind: u8,
+    id: Id,
+    count: usize,
+    table: &[u16],
+    source: &[u8],
+) -> Result<Measured, Refusal>
     ensures { measure_in result ≡ measured kind id count table.now source.now }
 {
-    if !is_typed(kind) {
-        return Measured::Refused {
-            number: 3,
-            detail: 0,
-        };
+    let kind = Kind::try_from(kind)?;
+    if !kind.fits(usize::from(id.count)) {
+        return Err(Reason::Id.at(0));
     }
-    let octets = id.count;
-    if id_fits(kind, octets as usize) {
-        if 64 < count {
-            return Measured::Refused {
-                number: 10,
-                detail: 0,
-            };
-        }
-        if table.len() < WIDTH * count {
-            return Measured::Refused {
-                number: 1,
-                detail: 0,
-            };
-        }
-        match set_size(count, table, source) {
-            Count::Of(set) => {
-                return whole_size(kind, octets, set);
-            }
-            Count::Refused { number, detail } => {
-                return Measured::Refused { number, detail };
-            }
-        }
+    if 64 < count {
+        return Err(Reason::Many.at(0));
     }
-    Measured::Refused {
-        number: 6,
-        detail: 0,
+    if table.len() < WIDTH * count {
+        return Err(Reason::Table.at(0));
     }
+    let set = set_size(count, table, source)?;
+    whole_size(kind.octet(), id.count, set)
 }
 
 // ---- how many octets
-
-fn wide(x: u16) -> usize
-    ensures { (result ≡ x) × (result < 65536) }
-{
-    x as usize
-}
 
 // An element: its identifier, its length field and its contents.
 fn element_size(head: usize, body: usize) -> usize
@@ -88,20 +62,18 @@ fn element_size(head: usize, body: usize) -> usize
     head + element::length_size(body) + body
 }
 
-// The element of the code; a RESULT has none.
+// The element of the code; a RESULT has none, and neither has what is no type.
+#[tactic(auto, unfolding(crate::specs::Needed::coding_size, crate::specs::Types::format_of))]
 fn coding_size(kind: u8) -> usize
     ensures { (result ≡ coding_size (coding_of kind)) × (result ≤ 4) }
 {
-    if kind == 0xE9 {
-        return 4;
+    match Kind::try_from(kind) {
+        Ok(Kind::Invoke) => 4,
+        Ok(Kind::Error) => 3,
+        Ok(Kind::Reject) => 4,
+        Ok(Kind::Result) => 0,
+        Err(_) => 0,
     }
-    if kind == 0xEB {
-        return 3;
-    }
-    if kind == 0xEC {
-        return 4;
-    }
-    0
 }
 
 // The contents of the type's element.
@@ -109,76 +81,71 @@ fn body_size(kind: u8, octets: u8, set: usize) -> usize
     requires { (octets ≤ 2) × (set ≤ 4194688) }
     ensures { (result ≡ body_size kind octets set) × (result ≤ 4200000) }
 {
-    2 + (octets as usize) + coding_size(kind) + element_size(1, set)
+    2 + usize::from(octets) + coding_size(kind) + element_size(1, set)
 }
 
 // The whole component, where its parameters take `set` octets: 15 where it is longer than 4,096.
-fn whole_size(kind: u8, octets: u8, set: usize) -> Measured
+#[tactic(auto, unfolding(crate::specs::inner::Emitting::measured_of))]
+#[inline(always)]
+fn whole_size(kind: u8, octets: u8, set: usize) -> Result<Measured, Refusal>
     requires { (octets ≤ 2) × (set ≤ 4194688) }
     ensures { measure_in result ≡ measured_of kind octets set }
 {
     let body = body_size(kind, octets, set);
     let whole = element_size(1, body);
     if 4096 < whole {
-        return Measured::Refused {
-            number: 15,
-            detail: whole as u32,
-        };
+        return Err(Reason::TooLong.at(whole as u32));
     }
-    Measured::Octets { whole, body, set }
+    Ok(Measured { whole, body, set })
 }
 
-// Whether an entry is one of a parameter whose contents stand in the source.
-fn entry_stands(i: usize, table: &[u16], source: &[u8]) -> bool
-    requires { (i < 64) × (width * i + 3 < length table.now) }
-    ensures { result ≡ entry_stands source.now (held table.now i) }
-{
-    if 16383 < table[WIDTH * i] {
-        return false;
-    }
-    if 1 < table[WIDTH * i + 1] {
-        return false;
-    }
-    wide(table[WIDTH * i + 2]) + wide(table[WIDTH * i + 3]) <= source.len()
-}
-
-// A parameter: most have one octet of identifier and one of length, so that is asked first. Longer contents behind one
-// octet have an answer of their own: the compiler would else ask both questions of each.
-fn parameter_size(number: u16, size: u16) -> usize
-    ensures { (result ≡ element_size (identifier_size number) size) × (result ≤ 65542) }
-{
-    if number < 31 {
-        if size < 128 {
-            return 2 + wide(size);
+impl Entry {
+    // The entry that a table holds.
+    #[inline(always)]
+    fn held(table: &[u16], i: usize) -> Self
+        requires { width * i + 4 < length table.now }
+        ensures held { entry_said result ≡ held table.now i }
+        ensures small { (result.start < 65536) × (result.size < 65536) }
+    {
+        let at = WIDTH * i;
+        Entry {
+            number: table[at],
+            form: table[at + 1],
+            start: usize::from(table[at + 2]),
+            size: usize::from(table[at + 3]),
+            place: usize::from(table[at + 4]),
         }
-        return element_size(1, wide(size));
     }
-    element_size(element::identifier_size(number), wide(size))
+
+    // The octets of its parameter, where it is one of a parameter whose contents stand in the source.
+    #[tactic(auto, unfolding(crate::specs::Composing::entry_stands, crate::specs::Part::fits))]
+    #[inline(always)]
+    fn octets_in(self, source: &[u8]) -> Option<usize>
+        requires { (self.start < 65536) × (self.size < 65536) }
+        ensures { result ≡ size_in source.now (entry_said self) }
+    {
+        if 16383 < self.number || 1 < self.form || source.len() < self.start + self.size {
+            return None;
+        }
+        Some(element_size(element::identifier_size(self.number), self.size))
+    }
 }
 
 // The parameters: 16 at the first entry that does not stand.
-fn set_size(count: usize, table: &[u16], source: &[u8]) -> Count
+#[inline(always)]
+fn set_size(count: usize, table: &[u16], source: &[u8]) -> Result<usize, Refusal>
     requires { (count ≤ 64) × (width * count ≤ length table.now) }
     ensures { (count_in result ≡ sized (entries_from 0 count table.now source.now))
         × at_most 4194688 result }
 {
-    let mut i: usize = 0;
     let mut sum: usize = 0;
-    let answer = 'entries: loop {
-        if count <= i {
-            break 'entries Count::Of(sum);
-        }
-        if entry_stands(i, table, source) {
-            sum = sum + parameter_size(table[WIDTH * i], table[WIDTH * i + 3]);
-            i = i + 1;
-        } else {
-            break 'entries Count::Refused {
-                number: 16,
-                detail: i as u32,
-            };
-        }
-    };
-    answer
+    for i in 0..count {
+        let Some(size) = Entry::held(table, i).octets_in(source) else {
+            return Err(Reason::Entry.at(i as u32));
+        };
+        sum += size;
+    }
+    Ok(sum)
 }
 
 // ---- the octets, each at a place of the output: the answer is the place behind them
@@ -312,22 +279,18 @@ fn put_few(out: &mut [u8], at: usize, octet: u8, count: u8, first: u8, second: u
 }
 
 // The element of the code, as the type has it: behind the family in an INVOKE, and none in a RESULT.
+#[tactic(auto, unfolding(crate::specs::inner::Emitting::coded_octets, crate::specs::Composed::code_element, crate::specs::Types::format_of, crate::specs::Table::written_code))]
 fn put_code(out: &mut [u8], at: usize, kind: u8, code: Code) -> usize
     requires { at + length (coded_octets kind code) ≤ length out.old }
     ensures { Put (coded_octets kind code) at out.old result out.new }
 {
-    let first = code.first;
-    let second = code.second;
-    if kind == 0xE9 {
-        return put_few(out, at, 0xD1, 2, 9, first);
+    match Kind::try_from(kind) {
+        Ok(Kind::Invoke) => put_few(out, at, 0xD1, 2, 9, code.first),
+        Ok(Kind::Error) => put_few(out, at, 0xD4, 1, code.first, 0),
+        Ok(Kind::Reject) => put_few(out, at, 0xD5, 2, code.first, code.second),
+        Ok(Kind::Result) => at,
+        Err(_) => at,
     }
-    if kind == 0xEB {
-        return put_few(out, at, 0xD4, 1, first, 0);
-    }
-    if kind != 0xEC {
-        return at;
-    }
-    put_few(out, at, 0xD5, 2, first, second)
 }
 
 // All that stands before the parameters: the contents of the type's element take `body` octets, and the parameters
@@ -339,32 +302,21 @@ fn put_head(kind: u8, id: Id, code: Code, body: usize, set: usize, out: &mut [u8
 {
     out[0] = kind;
     let component = put_length(out, 1, body);
-    let count = id.count;
-    let first = id.first;
-    let second = id.second;
-    let encoded = put_few(out, component, 0xCF, count, first, second);
+    let encoded = put_few(out, component, 0xCF, id.count, id.first, id.second);
     let parameters = put_code(out, encoded, kind, code);
     out[parameters] = 0xF2;
     put_length(out, parameters + 1, set)
 }
 
-fn put_parameter(
-    number: u16,
-    form: u16,
-    start: usize,
-    size: usize,
-    source: &[u8],
-    out: &mut [u8],
-    at: usize,
-) -> usize
-    requires { (number ≤ 16383) × (form ≤ 1) × (start + size ≤ length source.now) × (size < 65536)
-        × (at + length (element (identifier number form) (take size (drop start source.now))) ≤ length out.old) }
-    ensures { Put (element (identifier number form) (take size (drop start source.now))) at
-        out.old result out.new }
+#[inline(always)]
+fn put_parameter(entry: Entry, source: &[u8], out: &mut [u8], at: usize) -> usize
+    requires { EntryStands source.now (entry_said entry) × (entry.size < 65536)
+        × (at + length (octets_at source.now (entry_said entry)) ≤ length out.old) }
+    ensures { Put (octets_at source.now (entry_said entry)) at out.old result out.new }
 {
-    let field = put_identifier(out, at, number, form);
-    let contents = put_length(out, field, size);
-    copy_octets(source, start, size, out, contents)
+    let field = put_identifier(out, at, entry.number, entry.form);
+    let contents = put_length(out, field, entry.size);
+    copy_octets(source, entry.start, entry.size, out, contents)
 }
 
 fn put_parameters(count: usize, table: &[u16], source: &[u8], out: &mut [u8], at: usize) -> usize
@@ -373,21 +325,9 @@ fn put_parameters(count: usize, table: &[u16], source: &[u8], out: &mut [u8], at
     ensures { Put (set_of (parameters_from 0 count table.now source.now)) at
         out.old result out.new }
 {
-    let mut i: usize = 0;
     let mut next = at;
-    'entries: while i < count {
-        let start = wide(table[WIDTH * i + 2]);
-        let size = wide(table[WIDTH * i + 3]);
-        next = put_parameter(
-            table[WIDTH * i],
-            table[WIDTH * i + 1],
-            start,
-            size,
-            source,
-            out,
-            next,
-        );
-        i = i + 1;
+    for i in 0..count {
+        next = put_parameter(Entry::held(table, i), source, out, next);
     }
     next
 }
@@ -401,110 +341,40 @@ pub fn compose(
     table: &[u16],
     source: &[u8],
     out: &mut [u8],
-) -> Count
+) -> Result<usize, Refusal>
     ensures { (count_in result ≡
         written (composing kind id code count table.now source.now
         (length out.old)))
         × (out.new ≡ output_after out.old
         (composing kind id code count table.now source.now (length out.old))) }
 {
-    match measure(kind, id, count, table, source) {
-        Measured::Octets { whole, body, set } => {
-            if out.len() < whole {
-                return Count::Refused {
-                    number: 17,
-                    detail: whole as u32,
-                };
-            }
-            let parameters = put_head(kind, id, code, body, set, out);
-            return Count::Of(put_parameters(count, table, source, out, parameters));
-        }
-        Measured::Refused { number, detail } => {
-            return Count::Refused { number, detail };
-        }
+    let sizes = measure(kind, id, count, table, source)?;
+    if out.len() < sizes.whole {
+        return Err(Reason::Output.at(sizes.whole as u32));
     }
+    let parameters = put_head(kind, id, code, sizes.body, sizes.set, out);
+    Ok(put_parameters(count, table, source, out, parameters))
 }
 
 // ---- a component that was measured before
 
-// Whether an entry's form is one, and its contents stand in the source: what `entry_stands` says, but for the number.
-fn contents_stand(form: u16, start: u16, size: u16, source: &[u8]) -> bool
-    ensures { result ≡ (leb form 1 && fits source.now start size) }
-{
-    if 1 < form {
-        return false;
-    }
-    wide(start) + wide(size) <= source.len()
-}
-
-// What `entry_stands` and `parameter_size` say, by one number for `put_fitting`: the octets of an entry's parameter, 0
-// where the entry is none, as a parameter takes two octets or more. Most have one or two octets of identifier and one
-// of length, so that is asked first, and then no number is over 16,383. Longer contents have an answer of their own
-// behind each: the compiler would else ask both questions of each, or choose without branches.
-fn entry_size(i: usize, table: &[u16], source: &[u8]) -> usize
-    requires { (i < 64) × (width * i + 3 < length table.now) }
-    ensures { (result ≡ if (entry_stands source.now (held table.now i))
-        (element_size (identifier_size (held table.now i).number) (held table.now i).size) 0)
-        × (result ≤ 65542) }
-{
-    let number = table[WIDTH * i];
-    let size = table[WIDTH * i + 3];
-    if !contents_stand(table[WIDTH * i + 1], table[WIDTH * i + 2], size, source) {
-        return 0;
-    }
-    if number < 31 {
-        if size < 128 {
-            return 2 + wide(size);
-        }
-        return element_size(1, wide(size));
-    }
-    if number < 128 {
-        if size < 128 {
-            return 3 + wide(size);
-        }
-        return element_size(2, wide(size));
-    }
-    if 16383 < number {
-        return 0;
-    }
-    element_size(3, wide(size))
-}
-
-// The parameters, up to the first that does not stand or finds no room. For the longest identifier and length there
-// mostly is room, so that is asked first.
+// The parameters, up to the first that does not stand or finds no room.
 fn put_fitting(count: usize, table: &[u16], source: &[u8], out: &mut [u8], at: usize) -> usize
     requires { (count ≤ 64) × (width * count ≤ length table.now) × (at ≤ length out.old) }
     ensures { Put (fitting source.now (length out.old - at)
         (held_from 0 count table.now)) at out.old result out.new }
 {
-    let mut i: usize = 0;
     let mut next = at;
-    let answer = 'entries: loop {
-        if count <= i {
-            break 'entries next;
-        }
-        let number = table[WIDTH * i];
-        let form = table[WIDTH * i + 1];
-        let start = wide(table[WIDTH * i + 2]);
-        let size = wide(table[WIDTH * i + 3]);
-        if 16383 < number {
-            break 'entries next;
-        }
-        if 1 < form {
-            break 'entries next;
-        }
-        if source.len() < start + size {
-            break 'entries next;
-        }
-        if out.len() - next < 6 + size {
-            if out.len() - next < entry_size(i, table, source) {
-                break 'entries next;
+    for i in 0..count {
+        let entry = Entry::held(table, i);
+        match entry.octets_in(source) {
+            Some(size) if size <= out.len() - next => {
+                next = put_parameter(entry, source, out, next);
             }
+            _ => return next,
         }
-        next = put_parameter(number, form, start, size, source, out, next);
-        i = i + 1;
-    };
-    answer
+    }
+    next
 }
 
 // The component of parameters that take `set` octets, as `measure` has said: they are not measured again. So that this
@@ -522,23 +392,14 @@ pub fn compose_measured(
     ensures { Put (laid kind id code count table.now source.now set
         (length out.old)) 0 out.old result out.new }
 {
-    let octets = id.count;
-    if 2 < octets {
+    if 2 < id.count || 64 < count || 4096 < set || table.len() < WIDTH * count {
         return 0;
     }
-    if 64 < count {
-        return 0;
-    }
-    if 4096 < set {
-        return 0;
-    }
-    if table.len() < WIDTH * count {
-        return 0;
-    }
-    let body = body_size(kind, octets, wide(set));
+    let set = usize::from(set);
+    let body = body_size(kind, id.count, set);
     if out.len() < element_size(1, body) {
         return 0;
     }
-    let parameters = put_head(kind, id, code, body, wide(set), out);
+    let parameters = put_head(kind, id, code, body, set, out);
     put_fitting(count, table, source, out, parameters)
 }

@@ -6,7 +6,9 @@ mod reading;
 mod types;
 
 pub use composing::{compose, compose_measured, measure};
+use element::Refusal;
 pub use reading::{element_from, head_from, parameter_from, part, part_fits, wanted_from};
+pub use types::Kind;
 
 // The numbers of an entry of a table: number, form, start and length of the contents, and place of the identifier.
 pub const WIDTH: usize = 5;
@@ -15,90 +17,52 @@ pub const WIDTH: usize = 5;
 pub const TABLE: usize = 64 * WIDTH;
 
 // The octets of a component ID: `count` of them, and 0 where there is none.
-#[derive(Clone, Copy)]
+#[derive(Clone, Copy, Debug, PartialEq, Eq)]
 pub struct Id {
     pub count: u8,
     pub first: u8,
     pub second: u8,
 }
 
-// The contents of an element.
-#[derive(Drop)]
-pub enum Span {
-    Found { start: usize, end: usize },
-    Refused { number: u8, detail: u32 },
-}
-
 // The code of a component, as it is told and handed in: the specifier of an INVOKE or of a RESULT's operation, the
 // error octet, or the two problem octets. The second is 0, and not looked at, but in a REJECT.
-#[derive(Clone, Copy)]
+#[derive(Clone, Copy, Debug, PartialEq, Eq)]
 pub struct Code {
     pub first: u8,
     pub second: u8,
 }
 
-// All but the parameters: the octets of the component ID go from `id` to `behind`, the code starts at `code`, and the
-// parameters at `set`. A RESULT has no code: the set stands there.
-#[derive(Clone, Copy)]
-pub struct Heading {
-    pub kind: u8,
-    pub id: usize,
-    pub behind: usize,
+// The contents of an element.
+#[derive(Clone, Copy, Debug, PartialEq, Eq)]
+pub struct Span {
+    pub start: usize,
+    pub end: usize,
+}
+
+// All but the parameters: the octets of the component ID, and where the code and the parameters start. A RESULT has no
+// code: the set stands there.
+#[derive(Clone, Copy, Debug, PartialEq, Eq)]
+pub struct Head {
+    pub kind: Kind,
+    pub id: Span,
     pub code: usize,
     pub set: usize,
 }
 
-// What stands behind the length field of the type's element.
-#[derive(Drop)]
-enum Body {
-    Found {
-        id: usize,
-        behind: usize,
-        code: usize,
-        set: usize,
-    },
-    Refused {
-        number: u8,
-        detail: u32,
-    },
-}
-
-#[derive(Drop)]
-pub enum Head {
-    Found(Heading),
-    Refused { number: u8, detail: u32 },
-}
-
-#[derive(Drop)]
-pub enum Parameter {
-    Found {
-        number: u16,
-        form: u16,
-        start: usize,
-        size: usize,
-    },
-    Refused {
-        number: u8,
-        detail: u32,
-    },
-}
-
-#[derive(Drop)]
-pub enum Count {
-    Of(usize),
-    Refused { number: u8, detail: u32 },
+// A parameter, as an entry of a table shows it.
+#[derive(Clone, Copy, Debug, PartialEq, Eq)]
+pub struct Entry {
+    pub number: u16,
+    pub form: u16,
+    pub start: usize,
+    pub size: usize,
+    pub place: usize,
 }
 
 // What a component takes: its octets, those of the contents of its type's element, and those of its parameters.
-#[derive(Drop)]
-pub enum Measured {
-    Octets {
-        whole: usize,
-        body: usize,
-        set: usize,
-    },
-    Refused {
-        number: u8,
-        detail: u32,
-    },
+#[derive(Clone, Copy, Debug, PartialEq, Eq)]
+pub struct Measured {
+    pub whole: usize,
+    pub body: usize,
+    pub set: usize,
 }

@@ -1,6 +1,8 @@
 // The layout of a component, from left to right, and a part of it handed back.
-ghost use Rattle.std.specs.Prelude.{◌≡◌, ◌+◌, ◌<◌, ◌≤◌, length};
-ghost use Rattle.component.specs.Types.{Typed, coding_of};
+ghost use Rattle.std.specs.Prelude.{ℕ, ◌≡◌, ◌+◌, ◌<◌, ◌≤◌, length, IfOk, IfSome};
+ghost use Rattle.element.specs.Told.{number_of};
+ghost use Rattle.component.specs.Types.{coding_of};
+ghost use Rattle.component.specs.Kinds.{octet_of};
 ghost use Rattle.component.specs.Layout.{
   span,
   contents,
@@ -16,435 +18,286 @@ ghost use Rattle.component.specs.Layout.{
   parameter_at,
   parameter_from,
 };
+ghost use Rattle.component.specs.inner.Within.{Bounds};
 ghost use Rattle.component.specs.Part.{fits, part_of};
-ghost use Rattle.component.specs.Told.{span_in, entry_in, head_in};
-ghost use Rattle.component.specs.inner.Bodied.{body_in};
-ghost use Rattle.component.specs.inner.Entered.{within, entered};
+ghost use Rattle.component.specs.Told.{span_said, span_in, wanted_in, entry_in, head_in};
 
-use super::types::{id_fits, is_typed};
-use super::{Body, Head, Heading, Parameter, Span};
-use element::{Identifier, Length};
+use super::{Entry, Head, Kind, Span};
+use element::{Identifier, Length, Reason, Refusal};
 
-// ---- one element, and the numbers of its faults
+// Octets that a component may have. Each parent in them ends where they end.
+#[derive(Clone, Copy)]
+struct Component<'a> {
+    octets: &'a [u8],
+    ghost short: { length octets.now ≤ 4096 },
+}
 
-// No length field.
-const NO_FIELD: u8 = 4;
+impl Component<'_> {
+    // ---- one element
 
-// Contents that run past the parent.
-const OVERRUN: u8 = 5;
-
-// Octets left over behind an element that has to end where its parent ends.
-const LEFT_OVER: u8 = 20;
-
-// An element wanted where the parent has ended.
-const ENDED: u8 = 25;
-
-// The contents of the element at `at`, whose length field stands at `from`, in a parent that ends at `end`.
-fn contents_at(s: &[u8], at: usize, from: usize, end: usize) -> Span
-    requires { (at ≤ from) × (from ≤ end) × (end ≤ length s.now) × (length s.now ≤ 4096) }
-    ensures { span_in result ≡ contents s.now at from end }
-{
-    match element::read_length(&s[from..end]) {
-        Length::Is { value, size } => {
-            let start = from + size;
-            if start + value <= end {
-                return Span::Found {
-                    start,
-                    end: start + value,
-                };
-            }
-            Span::Refused {
-                number: OVERRUN,
-                detail: at as u32,
-            }
+    // The contents of the element at `at`, whose length field stands at `from`.
+    #[tactic(auto, unfolding(crate::specs::Layout::contents, crate::specs::Layout::span_of))]
+    #[inline(always)]
+    fn contents_at(self, at: usize, from: usize) -> Result<Span, Refusal>
+        requires { (at ≤ from) × (from ≤ length self.octets.now) }
+        ensures answer { span_in result ≡ contents self.entry.octets.now at from (length self.entry.octets.now) }
+        ensures inside { IfOk result (λ x. (from < x.start) × (x.start ≤ x.end) × (x.end ≤ length self.entry.octets.now)) }
+    {
+        let octets = self.octets;
+        let field = element::read_length(&octets[from..octets.len()]);
+        let Some(Length { value, size }) = field else {
+            return Err(Reason::Length.at(from as u32));
+        };
+        let start = from + size;
+        let end = start + value;
+        if octets.len() < end {
+            return Err(Reason::Overrun.at(at as u32));
         }
-        Length::Wrong => Span::Refused {
-            number: NO_FIELD,
-            detail: from as u32,
-        },
+        Ok(Span { start, end })
+    }
+
+    // The element of one identifier octet that is wanted at `at`: another octet there is refused for the reason.
+    #[tactic(auto, unfolding(crate::specs::Layout::wanted))]
+    #[inline(always)]
+    fn wanted_at(self, octet: u8, reason: Reason, at: usize) -> Result<Span, Refusal>
+        requires { at ≤ length self.octets.now }
+        ensures answer { span_in result
+            ≡ wanted self.entry.octets.now octet (number_of reason) at (length self.entry.octets.now) }
+        ensures inside { IfOk result (λ x. (at + 1 < x.start) × (x.start ≤ x.end) × (x.end ≤ length self.entry.octets.now)) }
+    {
+        let octets = self.octets;
+        match octets.get(at) {
+            None => Err(Reason::Ended.at(octets.len() as u32)),
+            Some(&first) if first == octet => self.contents_at(at, at + 1),
+            Some(_) => Err(reason.at(at as u32)),
+        }
+    }
+
+    // The set of parameters that is wanted at `at`, and has to end where its parent ends.
+    #[tactic(auto, unfolding(crate::specs::Layout::set_at))]
+    #[inline(always)]
+    fn set_at(self, at: usize) -> Result<Span, Refusal>
+        requires { at ≤ length self.octets.now }
+        ensures answer { span_in result ≡ set_at self.entry.octets.now at (length self.entry.octets.now) }
+        ensures inside { IfOk result (λ x. (at + 1 < x.start) × (x.start ≤ length self.entry.octets.now)) }
+    {
+        match self.wanted_at(0xF2, Reason::Set, at) {
+            Ok(set) if set.end != self.octets.len() => Err(Reason::LeftOver.at(set.end as u32)),
+            found => found,
+        }
+    }
+
+    // ---- all but the parameters
+
+    // The element of a code of `size` octets, with the family before it or without: the code in it.
+    #[tactic(auto, unfolding(crate::specs::Layout::coded_at))]
+    #[inline(always)]
+    fn coded_at(
+        self,
+        octet: u8,
+        reason: Reason,
+        family: bool,
+        size: usize,
+        at: usize,
+    ) -> Result<Span, Refusal>
+        requires { (size ≤ 2) × (at ≤ length self.octets.now) }
+        ensures answer { span_in result
+            ≡ coded_at self.entry.octets.now octet (number_of reason) family size at (length self.entry.octets.now) }
+        ensures inside { IfOk result (λ x. (at < x.start) × (x.start ≤ x.end) × (x.end ≤ length self.entry.octets.now)) }
+    {
+        match self.wanted_at(octet, reason, at) {
+            Ok(Span { start, end }) => {
+                let before = usize::from(family);
+                if end - start != before + size || family && self.octets[start] != 9 {
+                    return Err(reason.at(at as u32));
+                }
+                Ok(Span {
+                    start: start + before,
+                    end,
+                })
+            }
+            Err(refusal) => Err(refusal),
+        }
+    }
+
+    // The element between the component ID and the set, as the type has it; a RESULT has none.
+    #[tactic(auto, unfolding(crate::specs::Layout::code_at, crate::specs::Types::format_of))]
+    #[inline(always)]
+    fn code_at(self, kind: Kind, at: usize) -> Result<Span, Refusal>
+        requires { at ≤ length self.octets.now }
+        ensures answer { span_in result
+            ≡ code_at self.entry.octets.now (coding_of (octet_of kind)) at (length self.entry.octets.now) }
+        ensures inside { IfOk result (λ x. (at ≤ x.start) × (x.start ≤ x.end) × (x.end ≤ length self.entry.octets.now)) }
+    {
+        match kind {
+            Kind::Invoke => self.coded_at(0xD1, Reason::Operation, true, 1, at),
+            Kind::Result => Ok(Span { start: at, end: at }),
+            Kind::Error => self.coded_at(0xD4, Reason::Problem, false, 1, at),
+            Kind::Reject => self.coded_at(0xD5, Reason::Problem, false, 2, at),
+        }
+    }
+
+    // The code behind a component ID, and the set behind it.
+    #[tactic(auto, unfolding(crate::specs::Layout::behind_id))]
+    #[inline(always)]
+    fn behind_id(self, kind: Kind, id: Span) -> Result<Head, Refusal>
+        requires { id.end ≤ length self.octets.now }
+        ensures answer { head_in result
+            ≡ behind_id self.entry.octets.now (octet_of kind) (span_said id) (length self.entry.octets.now) }
+        ensures inside { IfOk result (λ h. (h.id ≡ id) × (h.code + 1 < length self.entry.octets.now) × (h.set ≤ length self.entry.octets.now)) }
+    {
+        match self.code_at(kind, id.end) {
+            Ok(code) => match self.set_at(code.end) {
+                Ok(set) => Ok(Head {
+                    kind,
+                    id,
+                    code: code.start,
+                    set: set.start,
+                }),
+                Err(refusal) => Err(refusal),
+            },
+            Err(refusal) => Err(refusal),
+        }
+    }
+
+    // The contents of the type's element, which go from `start` to the end of the octets.
+    #[tactic(auto, unfolding(crate::specs::Layout::body_at))]
+    #[inline(always)]
+    fn body_at(self, kind: Kind, start: usize) -> Result<Head, Refusal>
+        requires { start ≤ length self.octets.now }
+        ensures answer { head_in result
+            ≡ body_at self.entry.octets.now (octet_of kind) (span start (length self.entry.octets.now)) }
+        ensures inside { IfOk result (λ h. Bounds h.id.start h.id.end h.code h.set (length self.entry.octets.now)) }
+    {
+        match self.wanted_at(0xCF, Reason::Id, start) {
+            Ok(id) if kind.fits(id.end - id.start) => self.behind_id(kind, id),
+            Ok(_) => Err(Reason::Id.at(start as u32)),
+            Err(refusal) => Err(refusal),
+        }
+    }
+
+    // ---- parameters
+
+    #[tactic(auto, unfolding(crate::specs::Layout::parameter_at, crate::specs::Layout::parameter))]
+    #[inline(always)]
+    fn parameter_at(self, at: usize) -> Result<Entry, Refusal>
+        requires { at ≤ length self.octets.now }
+        ensures answer { entry_in result ≡ parameter_at self.entry.octets.now at (length self.entry.octets.now) }
+        ensures inside { IfOk result (λ e. (e.place ≡ at) × (at < e.start) × (e.start + e.size ≤ length self.entry.octets.now)) }
+    {
+        let octets = self.octets;
+        let identifier = element::read_identifier(&octets[at..octets.len()]);
+        let Some(Identifier { number, form, size }) = identifier else {
+            return Err(Reason::Identifier.at(at as u32));
+        };
+        match self.contents_at(at, at + size) {
+            Ok(Span { start, end }) => Ok(Entry {
+                number,
+                form,
+                start,
+                size: end - start,
+                place: at,
+            }),
+            Err(refusal) => Err(refusal),
+        }
     }
 }
 
-// The element of one identifier octet that is wanted at `at`: another octet there is refused by `number`. Where two
-// octets are left, both of its tests can be spared.
-fn wanted_at(s: &[u8], octet: u8, number: u8, at: usize, end: usize) -> Span
-    requires { (at ≤ end) × (end ≤ length s.now) × (length s.now ≤ 4096) }
-    ensures { span_in result ≡ wanted s.now octet number at end }
-{
-    if at + 1 < end {
-        if s[at] == octet {
-            return contents_at(s, at, at + 1, end);
-        }
-        return Span::Refused {
-            number,
-            detail: at as u32,
-        };
-    }
-    if end <= at {
-        return Span::Refused {
-            number: ENDED,
-            detail: end as u32,
-        };
-    }
-    if s[at] == octet {
-        return Span::Refused {
-            number: NO_FIELD,
-            detail: (at + 1) as u32,
-        };
-    }
-    Span::Refused {
-        number,
-        detail: at as u32,
-    }
-}
+// ---- the steps, of any octets
 
 // The element at `at`, whichever octet it begins with, in a parent that ends where the octets end.
-pub fn element_from(octets: &[u8], at: usize) -> Span
-    ensures { span_in result ≡ element_from octets.now at }
+#[tactic(auto, unfolding(crate::specs::Layout::element_from))]
+pub fn element_from(octets: &[u8], at: usize) -> Result<Span, Refusal>
+    ensures answer { span_in result ≡ element_from octets.now at }
+    ensures inside { IfOk result (λ x. (at + 1 < x.start) × (x.start ≤ x.end) × (x.end ≤ length octets.now)) }
 {
     if 4096 < octets.len() {
-        return Span::Refused {
-            number: 2,
-            detail: 0,
-        };
+        return Err(Reason::Size.at(0));
     }
+    let component = Component { octets };
     if octets.len() <= at {
-        return Span::Refused {
-            number: ENDED,
-            detail: octets.len() as u32,
-        };
+        return Err(Reason::Ended.at(octets.len() as u32));
     }
-    contents_at(octets, at, at + 1, octets.len())
+    component.contents_at(at, at + 1)
 }
 
-// The element of one identifier octet that is wanted at `at`, in such a parent.
-pub fn wanted_from(octets: &[u8], octet: u8, number: u8, at: usize) -> Span
-    ensures { span_in result ≡ wanted_from octets.now octet number at }
+// The element of one identifier octet that is wanted at `at`, in such a parent: none where another octet stands there,
+// whatever number the caller refuses that by.
+#[tactic(auto, unfolding(crate::specs::Layout::wanted_from, crate::specs::Layout::wanted))]
+pub fn wanted_from(octets: &[u8], octet: u8, at: usize) -> Result<Option<Span>, Refusal>
+    ensures answer { (number : ℕ) → wanted_in number at result ≡ wanted_from octets.now octet number at }
+    ensures inside { IfOk result (λ found. IfSome found (λ x. (at + 1 < x.start) × (x.start ≤ x.end)
+        × (x.end ≤ length octets.now))) }
 {
     if 4096 < octets.len() {
-        return Span::Refused {
-            number: 2,
-            detail: 0,
-        };
+        return Err(Reason::Size.at(0));
     }
-    if octets.len() < at {
-        return Span::Refused {
-            number: ENDED,
-            detail: octets.len() as u32,
-        };
-    }
-    wanted_at(octets, octet, number, at, octets.len())
-}
-
-// The set of parameters that is wanted at `at`, and has to end where its parent ends.
-#[tactic(auto, unfolding(crate::specs::Layout::set_at))]
-fn set_at(s: &[u8], at: usize, end: usize) -> Span
-    requires { (at ≤ end) × (end ≤ length s.now) × (length s.now ≤ 4096) }
-    ensures { span_in result ≡ set_at s.now at end }
-{
-    match wanted_at(s, 0xF2, 8, at, end) {
-        Span::Found {
-            start,
-            end: set_end,
-        } => {
-            if set_end != end {
-                return Span::Refused {
-                    number: LEFT_OVER,
-                    detail: set_end as u32,
-                };
-            }
-            Span::Found {
-                start,
-                end: set_end,
-            }
-        }
-        Span::Refused { number, detail } => Span::Refused { number, detail },
-    }
-}
-
-// ---- all but the parameters
-
-// The element of a code of `size` octets, with the family before it or without: the code in it.
-fn coded_at(
-    s: &[u8],
-    octet: u8,
-    number: u8,
-    family: bool,
-    size: usize,
-    at: usize,
-    end: usize,
-) -> Span
-    requires { (size ≤ 2) × (at ≤ end) × (end ≤ length s.now) × (length s.now ≤ 4096) }
-    ensures { span_in result ≡ coded_at s.now octet number family size at end }
-{
-    let before = if family { 1 } else { 0 };
-    match wanted_at(s, octet, number, at, end) {
-        Span::Found {
-            start,
-            end: code_end,
-        } => {
-            if code_end - start != before + size {
-                return Span::Refused {
-                    number,
-                    detail: at as u32,
-                };
-            }
-            if family {
-                if s[start] != 9 {
-                    return Span::Refused {
-                        number,
-                        detail: at as u32,
-                    };
-                }
-            }
-            Span::Found {
-                start: start + before,
-                end: code_end,
-            }
-        }
-        Span::Refused { number, detail } => Span::Refused { number, detail },
-    }
-}
-
-// The element between the component ID and the set, as the type has it; a RESULT has none.
-fn code_at(s: &[u8], kind: u8, at: usize, end: usize) -> Span
-    requires { Typed kind × (at ≤ end) × (end ≤ length s.now) × (length s.now ≤ 4096) }
-    ensures { span_in result ≡ code_at s.now (coding_of kind) at end }
-{
-    if kind == 0xEA {
-        return Span::Found { start: at, end: at };
-    }
-    if kind < 0xEA {
-        return coded_at(s, 0xD1, 7, true, 1, at, end);
-    }
-    if kind < 0xEC {
-        return coded_at(s, 0xD4, 21, false, 1, at, end);
-    }
-    coded_at(s, 0xD5, 21, false, 2, at, end)
-}
-
-// The code behind a component ID, and the set behind it.
-fn behind_id(s: &[u8], kind: u8, id: usize, behind: usize, end: usize) -> Body
-    requires { Typed kind × (behind ≤ end) × (end ≤ length s.now) × (length s.now ≤ 4096) }
-    ensures { body_in kind result ≡ behind_id s.now kind (span id behind) end }
-{
-    match code_at(s, kind, behind, end) {
-        Span::Found {
-            start: code,
-            end: code_end,
-        } => match set_at(s, code_end, end) {
-            Span::Found { start: set, end: _ } => Body::Found {
-                id,
-                behind,
-                code,
-                set,
-            },
-            Span::Refused { number, detail } => Body::Refused { number, detail },
-        },
-        Span::Refused { number, detail } => Body::Refused { number, detail },
-    }
-}
-
-// The contents of the type's element, which go from `start` to the end of the octets.
-fn body_at(s: &[u8], kind: u8, start: usize) -> Body
-    requires { Typed kind × (start ≤ length s.now) × (length s.now ≤ 4096) }
-    ensures { body_in kind result ≡
-        body_at s.now kind (span start (length s.now)) }
-{
-    let end = s.len();
-    match wanted_at(s, 0xCF, 6, start, end) {
-        Span::Found {
-            start: id,
-            end: behind,
-        } => {
-            if id_fits(kind, behind - id) {
-                return behind_id(s, kind, id, behind, end);
-            }
-            Body::Refused {
-                number: 6,
-                detail: start as u32,
-            }
-        }
-        Span::Refused { number, detail } => Body::Refused { number, detail },
-    }
-}
-
-// What stands in the element of a type, with the type.
-fn headed(kind: u8, body: Body) -> Head
-    ensures { head_in result ≡ body_in kind body }
-{
-    match body {
-        Body::Found {
-            id,
-            behind,
-            code,
-            set,
-        } => Head::Found(Heading {
-            kind,
-            id,
-            behind,
-            code,
-            set,
-        }),
-        Body::Refused { number, detail } => Head::Refused { number, detail },
+    let component = Component { octets };
+    match octets.get(at) {
+        None => Err(Reason::Ended.at(octets.len() as u32)),
+        Some(&first) if first == octet => component.contents_at(at, at + 1).map(Some),
+        Some(_) => Ok(None),
     }
 }
 
 // The component that stands from `from` to the end of the octets.
-pub fn head_from(octets: &[u8], from: usize) -> Head
-    ensures { head_in result ≡ head_at octets.now from }
+#[tactic(auto, unfolding(crate::specs::Layout::head_at, crate::specs::Layout::head_from))]
+#[inline(always)]
+pub fn head_from(octets: &[u8], from: usize) -> Result<Head, Refusal>
+    ensures answer { head_in result ≡ head_at octets.now from }
+    ensures inside { IfOk result (λ h. Bounds h.id.start h.id.end h.code h.set (length octets.now)) }
+    ensures short { IfOk result (λ _. length octets.now ≤ 4096) }
 {
     if octets.len() <= from {
-        return Head::Refused {
-            number: 2,
-            detail: 0,
-        };
+        return Err(Reason::Size.at(0));
     }
     if 4096 < octets.len() {
-        return Head::Refused {
-            number: 2,
-            detail: 0,
-        };
+        return Err(Reason::Size.at(0));
     }
-    let kind = octets[from];
-    if !is_typed(kind) {
-        return Head::Refused {
-            number: 3,
-            detail: 0,
-        };
-    }
-    match contents_at(octets, from, from + 1, octets.len()) {
-        Span::Found { start, end } => {
-            if end != octets.len() {
-                return Head::Refused {
-                    number: LEFT_OVER,
-                    detail: end as u32,
-                };
-            }
-            headed(kind, body_at(octets, kind, start))
-        }
-        Span::Refused { number, detail } => Head::Refused { number, detail },
-    }
-}
-
-// ---- parameters
-
-// The parameter at `at`, whose contents are `size` octets from `start` on, in a parent that ends at `end`.
-fn parameter_within(
-    number: u16,
-    form: u16,
-    at: usize,
-    start: usize,
-    size: usize,
-    end: usize,
-) -> Parameter
-    requires { (at ≤ start) × (start ≤ 4096) × (size < 65536) }
-    ensures { entry_in at result ≡ entered number form at (within at start size end) }
-{
-    if start + size <= end {
-        return Parameter::Found {
-            number,
-            form,
-            start,
-            size,
-        };
-    }
-    Parameter::Refused {
-        number: OVERRUN,
-        detail: at as u32,
-    }
-}
-
-// The parameter at `at`, whose identifier was read up to `from`. Each size of identifier has its own call of this, and
-// a length of one octet its own answer: the compiler then adds no sizes that it chose before.
-fn parameter_behind(
-    s: &[u8],
-    number: u16,
-    form: u16,
-    at: usize,
-    from: usize,
-    end: usize,
-) -> Parameter
-    requires { (at ≤ from) × (from ≤ end) × (end ≤ length s.now) × (length s.now ≤ 4096) }
-    ensures { entry_in at result ≡ entered number form at (contents s.now at from end) }
-{
-    match element::read_length(&s[from..end]) {
-        Length::Is { value, size } => {
-            if size == 1 {
-                return parameter_within(number, form, at, from + 1, value, end);
-            }
-            parameter_within(number, form, at, from + size, value, end)
-        }
-        Length::Wrong => Parameter::Refused {
-            number: NO_FIELD,
-            detail: from as u32,
-        },
-    }
-}
-
-fn parameter_at(s: &[u8], at: usize, end: usize) -> Parameter
-    requires { (at ≤ end) × (end ≤ length s.now) × (length s.now ≤ 4096) }
-    ensures { entry_in at result ≡ parameter_at s.now at end }
-{
-    match element::read_identifier(&s[at..end]) {
-        Identifier::Is { number, form, size } => {
-            if size == 1 {
-                return parameter_behind(s, number, form, at, at + 1, end);
-            }
-            if size == 2 {
-                return parameter_behind(s, number, form, at, at + 2, end);
-            }
-            parameter_behind(s, number, form, at, at + 3, end)
-        }
-        Identifier::IllFormed => Parameter::Refused {
-            number: 9,
-            detail: at as u32,
-        },
+    let component = Component { octets };
+    let kind = Kind::try_from(octets[from])?;
+    match component.contents_at(from, from + 1) {
+        Ok(body) if body.end == octets.len() => component.body_at(kind, body.start),
+        Ok(body) => Err(Reason::LeftOver.at(body.end as u32)),
+        Err(refusal) => Err(refusal),
     }
 }
 
 // The parameter that stands at `at`, in a parent that ends where the octets end.
-pub fn parameter_from(octets: &[u8], at: usize) -> Parameter
-    ensures { entry_in at result ≡ parameter_from octets.now at }
+#[tactic(auto, unfolding(crate::specs::Layout::parameter_from))]
+#[inline(always)]
+pub fn parameter_from(octets: &[u8], at: usize) -> Result<Entry, Refusal>
+    ensures answer { entry_in result ≡ parameter_from octets.now at }
+    ensures inside { IfOk result (λ e. (e.place ≡ at) × (at < e.start)
+        × (e.start + e.size ≤ length octets.now)) }
+    ensures short { IfOk result (λ _. length octets.now ≤ 4096) }
 {
     if 4096 < octets.len() {
-        return Parameter::Refused {
-            number: 2,
-            detail: 0,
-        };
+        return Err(Reason::Size.at(0));
     }
+    let component = Component { octets };
     if octets.len() <= at {
-        return Parameter::Refused {
-            number: ENDED,
-            detail: octets.len() as u32,
-        };
+        return Err(Reason::Ended.at(octets.len() as u32));
     }
-    parameter_at(octets, at, octets.len())
+    component.parameter_at(at)
 }
 
 // ---- a part of the component
 
 // Whether contents of `size` octets from `start` on stand in the component.
+#[tactic(auto, unfolding(crate::specs::Part::fits))]
 pub fn part_fits(component: &[u8], start: usize, size: usize) -> bool
     ensures { result ≡ fits component.now start size }
 {
-    if component.len() < start {
-        return false;
-    }
-    if component.len() - start < size {
-        return false;
-    }
-    true
+    start <= component.len() && size <= component.len() - start
 }
 
 // Those contents as a part of the component itself; the empty part where they do not fit.
+#[tactic(auto, unfolding(crate::specs::Part::part_of, crate::specs::Part::fits))]
 pub fn part(component: &[u8], start: usize, size: usize) -> &[u8]
     ensures { result.now ≡ part_of component.now start size }
 {
-    if component.len() < start {
-        return &component[..0];
-    }
-    if component.len() - start < size {
+    if !part_fits(component, start, size) {
         return &component[..0];
     }
     let end = start + size;

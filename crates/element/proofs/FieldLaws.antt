@@ -1,10 +1,10 @@
--- The laws of a field written into a lent output: where there is room it stands there and nothing else changes, else nothing does.
-use Prim.Native.Nat.{ℕ, ◌+◌, ◌-◌, ◌%◌, ◌<◌, ◌≤◌}
+-- The laws of a field written into a lent output: where there is room it stands there and nothing else changes.
+use Prim.Native.Nat.{ℕ, ◌+◌, ◌-◌, ◌%◌, ◌≤◌}
 use mathlib.Core.Path.{◌≡◌, refl, sym, ap, ◌∙◌}
 use mathlib.Core.List.{[], ◌∷◌, ◌++◌, append_assoc, append-nil}
 use lib.ListN.{length, take, drop, length-append, length-take, length-drop, take-append-drop}
 use lib.Seq.{take-append_seam, take_at, drop-append-add, drop-drop, length-take-le, sets, sets-eq}
-use borrow.Author.Tests.{le-leb, lt-leb}
+use borrow.Author.Tests.{le-leb}
 use native.Mathlib.Nat.{add-zero}
 use native.Mathlib.Omega.{arith}
 use Rattle.element.specs.Octets.{Octets, AreOctets}
@@ -54,10 +54,6 @@ module _ (field : Octets) (at : ℕ) (out : Octets) where
   pub roomy : at + length field ≤ length out → output_after field at out ≡ put field at out
   unfolding output_after
   roomy h = simp (le-leb (at + length field) (length out) h)
-
-  pub cramped : length out < at + length field → output_after field at out ≡ out
-  unfolding output_after
-  cramped h = simp (lt-leb (at + length field) (length out) h)
 
 -- a field of one to three octets is what its value holds
 pub held : (s : Octets) → AreOctets s → (1 ≤ length s) × (length s ≤ 3) → octets_in (field_of s) ≡ s

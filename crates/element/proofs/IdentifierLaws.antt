@@ -1,17 +1,18 @@
 -- The laws of the identifier: what is written is read back, what is read was written, and how long an identifier is.
 use Prim.Native.Nat.{ℕ, suc, ◌+◌, ◌*◌, ◌-◌, ◌/◌, ◌%◌, ◌<◌, ◌≤◌}
-use mathlib.Core.Path.{◌≡◌, ap, ◌∙◌}
+use mathlib.Core.Path.{◌≡◌, sym, ap, ◌∙◌}
+use Rattle.std.proofs.lemmas.Option.{same_Some}
 use mathlib.Core.List.{[], ◌∷◌, ◌++◌}
 use lib.ListN.{length, take, get_or}
 use lib.Seq.{length-take-le}
 use lib.Dec.{leb-suc-zero}
 use borrow.Author.Tests.{lt-ltb, le-ltb, lt-leb, ne_eqb}
 use native.Mathlib.Omega.{arith}
+use Rattle.std.specs.Prelude.{Option, None}
 use Rattle.element.specs.declared.Identifier as I
-use Rattle.element.specs.declared.Identifier.TheVariants as IV
 use Rattle.element.specs.Octets.{Octets, AreOctets}
 use Rattle.element.specs.Identifier.{IdentifierField, only, identifier, identifier_size}
-use Rattle.element.specs.Decoded.{identifier_at, numbered}
+use Rattle.element.specs.Decoded.{an_identifier, identifier_at, numbered}
 use Rattle.element.proofs.Reading.{less, most, same, first, first_two, first_three, Small, small as each-small}
 
 -- an identifier by its size, and back
@@ -49,7 +50,7 @@ size number form =
     (λ a b. simp (le-ltb number 31, lt-ltb number 128))
     (λ a. simp (le-ltb number 31 (omega arith), le-ltb number 128))
 
-brief : {number form : ℕ} → form ≤ 1 → number < 31 → (s : Octets) → identifier_at ((0x80 + 32 * form + number) ∷ s) ≡ IV.Is number form 1
+brief : {number form : ℕ} → form ≤ 1 → number < 31 → (s : Octets) → identifier_at ((0x80 + 32 * form + number) ∷ s) ≡ an_identifier number form 1
 unfolding identifier_at
 brief {number} {form} h k s =
     let a = 0x80 + 32 * form + number in
@@ -74,14 +75,14 @@ small number e =
     less (λ k. k ≤ 3) {x = number} {y = 128} {a = 2} {b = 3} (λ _. omega arith) (λ _. omega arith))
 
 pub complete : {number form : ℕ} {field : Octets} → IdentifierField number form field → (rest : Octets) →
-    identifier_at (field ++ rest) ≡ IV.Is number form (length field)
+    identifier_at (field ++ rest) ≡ an_identifier number form (length field)
 unfolding numbered
 complete (only number form h k) rest =
     let b = 0x80 + number / 128 in
     let c = number % 128 in
     let l = suc (suc (length rest)) in
     let e : (b - 0x80) * 128 + c ≡ number = omega arith in
-    by_size (λ f. identifier_at (f ++ rest) ≡ IV.Is number form (length f)) number form
+    by_size (λ f. identifier_at (f ++ rest) ≡ an_identifier number form (length f)) number form
     (λ i. brief k i rest)
     (λ i j. long k (number ∷ rest) ∙ simp (lt-leb l 1 (omega arith), lt-ltb number 128, le-ltb number 31))
     (λ i. long k (b ∷ c ∷ rest) ∙ simp (
@@ -93,14 +94,15 @@ complete (only number form h k) rest =
       e,
     ))
 
-pub read_back : (number form : ℕ) → number ≤ 16383 → form ≤ 1 → (rest : Octets) →
-    identifier_at (identifier number form ++ rest) ≡ IV.Is number form (length (identifier number form))
-read_back number form h k rest = complete (only number form h k) rest
+pub same_identifier : {a b c d j k : ℕ} → an_identifier a c j ≡ an_identifier b d k → (a ≡ b) × (c ≡ d) × (j ≡ k)
+same_identifier e =
+    let alike = same_Some _ _ e in
+    (ap (λ (i : I.Identifier). i.number) alike, ap (λ (i : I.Identifier). i.form) alike, ap (λ (i : I.Identifier). i.size) alike)
 
 -- what there is to read: in three octets too no number is over 16,383
-data Read (s : Octets) : I.Identifier → Type 0 where
-  ill_formed : Read s IV.IllFormed
-  found : {number form : ℕ} (k : ℕ) → take k s ≡ identifier number form → number ≤ 16383 → form ≤ 1 → k ≤ length s → Read s (IV.Is number form k)
+data Read (s : Octets) : Option I.Identifier → Type 0 where
+  ill_formed : Read s None
+  found : {number form : ℕ} (k : ℕ) → take k s ≡ identifier number form → number ≤ 16383 → form ≤ 1 → k ≤ length s → Read s (an_identifier number form k)
 
 module _ (s : Octets) (o : AreOctets s) where
   read_numbered : get_or s 0 0 / 64 ≡ 2 → 31 ≤ get_or s 0 0 % 32 → Read s (numbered (get_or s 0 0 / 32 % 2) s)
@@ -120,21 +122,19 @@ module _ (s : Octets) (o : AreOctets s) where
       most R (λ _. ill_formed) λ h.
       same R (λ e. less R (λ l. found 1 (first s h ∙ one e l) (omega arith) (omega arith) h) (read_numbered e)) (λ _. ill_formed)
 
-taken : {s : Octets} {a : I.Identifier} {number form size : ℕ} → Read s a → a ≡ IV.Is number form size →
+taken : {s : Octets} {a : Option I.Identifier} {number form size : ℕ} → Read s a → a ≡ an_identifier number form size →
     IdentifierField number form (take size s) × (size ≤ length s)
 taken ill_formed e = let z : ◌≡◌ {A = ℕ} 0 1 = cc in absurd (omega arith)
 taken {number = number} {form = form} {size = i} (found {number = m} {form = l} k t b c h) e =
-    let p : number ≡ m = cc in
-    let q : form ≡ l = cc in
-    let r : i ≡ k = cc in
+    let (p, q, r) = same_identifier (sym e) in
     rw (p, q, r, t) (only m l b c, h)
 
-pub sound : (s : Octets) → AreOctets s → {number form size : ℕ} → identifier_at s ≡ IV.Is number form size →
+pub sound : (s : Octets) → AreOctets s → {number form size : ℕ} → identifier_at s ≡ an_identifier number form size →
     IdentifierField number form (take size s) × (size ≤ length s)
 sound s o e = taken (read s o) e
 
-pub behind : (s t : Octets) → AreOctets s → {number form size : ℕ} → identifier_at s ≡ IV.Is number form size →
-    identifier_at (take size s ++ t) ≡ IV.Is number form size
+pub behind : (s t : Octets) → AreOctets s → {number form size : ℕ} → identifier_at s ≡ an_identifier number form size →
+    identifier_at (take size s ++ t) ≡ an_identifier number form size
 behind s t o {size = size} e = let (r, h) = sound s o e in rw (length-take-le size s h) at (complete r t)
 
 pub sizes : {number form : ℕ} {field : Octets} → IdentifierField number form field → (1 ≤ length field) × (length field ≤ 3)
@@ -154,7 +154,7 @@ no_longer_run {a = a} {b} {c} {s = s} rest (only number form h k) l m n =
     (λ _ e. omega (arith, ap (λ t. get_or t 2 0) e))
 
 -- of what is read: 1 to 3 octets, all of them there, a number up to 16,383 and a form
-pub inside : (s : Octets) → AreOctets s → {number form size : ℕ} → identifier_at s ≡ IV.Is number form size →
+pub inside : (s : Octets) → AreOctets s → {number form size : ℕ} → identifier_at s ≡ an_identifier number form size →
     (1 ≤ size) × (size ≤ 3) × (size ≤ length s) × (number ≤ 16383) × (form ≤ 1)
 inside s o {size = size} e =
     let (f, h) = sound s o e in

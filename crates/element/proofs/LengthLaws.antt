@@ -1,6 +1,7 @@
 -- The laws of the length field: what says a length is read back, what is read says it, and which field is the shortest.
 use Prim.Native.Nat.{ℕ, suc, ◌+◌, ◌*◌, ◌/◌, ◌%◌, ◌<◌, ◌≤◌}
-use mathlib.Core.Path.{◌≡◌, refl}
+use mathlib.Core.Path.{◌≡◌, refl, sym, ap, ◌∙◌}
+use Rattle.std.proofs.lemmas.Option.{same_Some}
 use mathlib.Core.List.{[], ◌∷◌, ◌++◌}
 use mathlib.Core.Logic.{◌⊎◌, inl, inr}
 use lib.ListN.{length, take, get_or}
@@ -8,11 +9,11 @@ use lib.Seq.{length-take-le}
 use lib.Dec.{leb-suc-zero}
 use borrow.Author.Tests.{lt-ltb, le-ltb, lt-leb}
 use native.Mathlib.Omega.{arith}
+use Rattle.std.specs.Prelude.{Option, None}
 use Rattle.element.specs.declared.Length as L
-use Rattle.element.specs.declared.Length.TheVariants as LV
 use Rattle.element.specs.Octets.{Octets, AreOctets}
 use Rattle.element.specs.Length.{LengthField, one, two, three, shortest, field_size}
-use Rattle.element.specs.Decoded.{length_at}
+use Rattle.element.specs.Decoded.{a_length, length_at}
 use Rattle.element.proofs.Reading.{less, most, same, first, first_two, first_three, small as each-small}
 
 -- the shortest field by its size
@@ -57,26 +58,26 @@ exact (three {high} {low} h k) =
     by_size (λ f. 3 ≤ length f → 0x82 ∷ high ∷ low ∷ [] ≡ f) n (λ _ l. absurd (omega arith)) (λ _ _ l. absurd (omega arith)) (λ _ _. rw (e, f))
 
 -- ---- read back, and what is read
-pub complete : {n : ℕ} {field : Octets} → LengthField n field → (rest : Octets) → length_at (field ++ rest) ≡ LV.Is n (length field)
+pub complete : {n : ℕ} {field : Octets} → LengthField n field → (rest : Octets) → length_at (field ++ rest) ≡ a_length n (length field)
 unfolding length_at
 complete (one {n} h) rest = simp (leb-suc-zero, lt-ltb n 128)
 complete (two h) rest = simp (leb-suc-zero, lt-leb (suc (suc (length rest))) 1 (omega arith))
 complete (three h k) rest = simp (leb-suc-zero, lt-leb (suc (suc (suc (length rest)))) 2 (omega arith))
 
-pub read_back : (n : ℕ) → n < 65536 → (rest : Octets) → length_at (shortest n ++ rest) ≡ LV.Is n (length (shortest n))
-read_back n h rest = complete (short n h) rest
+pub same_length : {n m j k : ℕ} → a_length n j ≡ a_length m k → (n ≡ m) × (j ≡ k)
+same_length e =
+    let alike = same_Some _ _ e in
+    (ap (λ (l : L.Length). l.value) alike, ap (λ (l : L.Length). l.size) alike)
 
 -- a field says one length
 pub unique : {n m : ℕ} {field : Octets} → LengthField n field → LengthField m field → n ≡ m
 unique x y =
-    let a = complete x [] in
-    let b = complete y [] in
-    cc
+    (same_length (sym (complete x []) ∙ complete y [])).0
 
 -- what there is to read
-data Read (s : Octets) : L.Length → Type 0 where
-  wrong : Read s LV.Wrong
-  found : {n : ℕ} (k : ℕ) → LengthField n (take k s) → k ≤ length s → Read s (LV.Is n k)
+data Read (s : Octets) : Option L.Length → Type 0 where
+  wrong : Read s None
+  found : {n : ℕ} (k : ℕ) → LengthField n (take k s) → k ≤ length s → Read s (a_length n k)
 
 after_81 : {a n : ℕ} → a ≡ 0x81 → n < 256 → LengthField n (a ∷ n ∷ [])
 after_81 e h = rw e (two h)
@@ -93,17 +94,16 @@ read s o =
     same R (λ e. most R (λ _. wrong) λ k. found {n = get_or s 1 0} 2 (rw (first_two s k) (after_81 e (o 1))) k) λ _.
     same R (λ e. most R (λ _. wrong) λ k. found {n = get_or s 1 0 * 256 + get_or s 2 0} 3 (rw (first_three s k) (after_82 e (o 1) (o 2))) k) (λ _. wrong)
 
-taken : {s : Octets} {a : L.Length} {value size : ℕ} → Read s a → a ≡ LV.Is value size → LengthField value (take size s) × (size ≤ length s)
+taken : {s : Octets} {a : Option L.Length} {value size : ℕ} → Read s a → a ≡ a_length value size → LengthField value (take size s) × (size ≤ length s)
 taken wrong e = let z : ◌≡◌ {A = ℕ} 0 1 = cc in absurd (omega arith)
 taken {value = value} {size = i} (found {n} k w h) e =
-    let p : value ≡ n = cc in
-    let q : i ≡ k = cc in
+    let (p, q) = same_length (sym e) in
     rw (p, q) (w, h)
 
-pub sound : (s : Octets) → AreOctets s → {value size : ℕ} → length_at s ≡ LV.Is value size → LengthField value (take size s) × (size ≤ length s)
+pub sound : (s : Octets) → AreOctets s → {value size : ℕ} → length_at s ≡ a_length value size → LengthField value (take size s) × (size ≤ length s)
 sound s o e = taken (read s o) e
 
-pub behind : (s t : Octets) → AreOctets s → {value size : ℕ} → length_at s ≡ LV.Is value size → length_at (take size s ++ t) ≡ LV.Is value size
+pub behind : (s t : Octets) → AreOctets s → {value size : ℕ} → length_at s ≡ a_length value size → length_at (take size s ++ t) ≡ a_length value size
 behind s t o {size = size} e = let (r, h) = sound s o e in rw (length-take-le size s h) at (complete r t)
 
 pub sizes : {n : ℕ} {field : Octets} → LengthField n field → (1 ≤ length field) × (length field ≤ 3)
@@ -125,7 +125,7 @@ bounded (two h) = omega arith
 bounded (three h k) = omega arith
 
 -- of what is read: 1 to 3 octets, all of them there, and a value of 16 bits
-pub inside : (s : Octets) → AreOctets s → {value size : ℕ} → length_at s ≡ LV.Is value size → (1 ≤ size) × (size ≤ 3) × (size ≤ length s) × (value < 65536)
+pub inside : (s : Octets) → AreOctets s → {value size : ℕ} → length_at s ≡ a_length value size → (1 ≤ size) × (size ≤ 3) × (size ≤ length s) × (value < 65536)
 inside s o {size = size} e =
     let (f, h) = sound s o e in
     let l = rw (length-take-le size s h) at (sizes f) in

@@ -3,4 +3,3 @@ pub mod LengthLaws
 pub mod IdentifierLaws
 pub mod FieldLaws
 pub mod Outcomes
-pub mod Ways

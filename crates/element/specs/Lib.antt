@@ -1,5 +1,6 @@
 pub mod Octets
 pub mod Answer
+pub mod Told
 pub mod Length
 pub mod Identifier
 pub mod Field

@@ -32,14 +32,12 @@ module _ {code : ℕ} (octet : code < 256) {r : P.Part} (e : r ≡ part_of code)
       sym (ap length name_part.part) ∙
       length-take-le r.size (drop r.start names) (simp length-drop (omega (arith, name_part.within)))
 
-  pub whole : (out : Octets) → r.size ≤ length out → {after : Octets} →
-      let name = between r.start (r.start + r.size) names in
-      after ≡ name ++ drop (length name) out →
+  pub whole : (out : Octets) → r.size ≤ length out → {part : Octets} → part ≡ between r.start (r.start + r.size) names →
       (accepted r.size ≡ written (naming code (length out))) ×
-      (after ≡ output_after out (naming code (length out)))
+      (part ++ drop r.size out ≡ output_after out (naming code (length out)))
   unfolding naming written output_after
-  whole out h a =
-      simp (sized, le-leb r.size (length out)) (refl, a ∙ simp (add-sub_cancel_left, name_part.part, sized))
+  whole out h e =
+      simp (sized, le-leb r.size (length out)) (refl, ap (λ p. p ++ drop r.size out) (e ∙ simp (add-sub_cancel_left, name_part.part)))
 
   pub cramped : (out : Octets) → length out < r.size →
       (refused 17 r.size ≡ written (naming code (length out))) ×

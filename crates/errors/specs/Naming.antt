@@ -1,9 +1,9 @@
 -- The name of an error code for a lent output: it is refused where there is no room for all of it.
-use Rattle.std.specs.Prelude.{ℕ, length, leb}
+use Rattle.std.specs.Prelude.{ℕ, Result, length, leb}
+use Rattle.element.specs.declared.refusal.Refusal as F
 use Rattle.element.specs.Octets.{Octets}
-use Rattle.element.specs.Answer.{Answer, accepted, refused, check, ◌>>◌}
-use Rattle.errors.specs.declared.Named as N
-use Rattle.errors.specs.declared.Named.TheVariants as NV
+use Rattle.element.specs.Answer.{Answer, accepted, check, ◌>>◌}
+use Rattle.element.specs.Told.{told}
 use Rattle.errors.specs.Table6.{name_of}
 
 unfoldable pub naming : (code room : ℕ) → Answer Octets
@@ -12,6 +12,5 @@ naming code room = do
   accepted (name_of code)
 
 -- what an outcome tells
-unfoldable pub named_in : N.Named → Answer ℕ
-named_in (NV.Octets n) = accepted n
-named_in (NV.Short n) = refused 17 n
+abbrev pub named_in : Result ℕ F.Refusal → Answer ℕ
+named_in r = told (λ n. n) r

@@ -1,145 +1,49 @@
 // The loop that reads and writes: tagged fields are read from a reader, and lines are written to a writer. No contract
 // can say what the system reads or writes, so the loop is proved safe and ending and states no outcome. What a field
-// does to the run is `lines::list_field`, or `lines::list_package`, which state all of it. A read or a write that fails
-// ends the run, and is answered.
+// does to the run is `lines::list_field`, which states all of it. A read or a write that fails ends the run, and is
+// answered.
 #![tactic(auto)]
 
 mod failure;
+mod input;
+mod output;
 
-ghost use Rattle.std.specs.Prelude.{◌≤◌, length, OnOk, IfErr};
-ghost use Rattle.std.specs.Io.{ReadsAtMost};
+ghost use Rattle.std.specs.Prelude.{OnOk, IfErr};
 ghost use Rattle.std.specs.Io.KnownBytes.{Appends, Keeps};
 ghost use Rattle.fields.specs.Status.{IsUnwritten};
 
 pub use failure::{Failure, status};
-use lines::{Field, Kept, LONGEST_PACKAGE, Listed};
-use std::io;
-use std::io::{ErrorKind, Read, Write};
+use input::Input;
+use lines::{Field, Kept, Subject};
+use output::Output;
+use std::io::{Read, Write};
 
-// What is left of the piece of input that was read last.
+// Why no field is left: the input ends between two fields or within one, or a read or a write failed.
 #[derive(Clone, Copy)]
-struct Left {
-    at: usize,
-    end: usize,
-    // Why the input ends here, where it cannot be read on.
-    unread: Option<io::Error>,
+enum End {
+    Whole,
+    Cut,
+    Failed(Failure),
 }
 
-#[derive(Drop)]
-struct Taken {
-    left: Left,
-    // How many octets there were.
-    count: usize,
-}
-
-#[derive(Drop)]
-struct Head {
-    left: Left,
-    count: usize,
-    field: Field,
+impl From<Failure> for End {
+    fn from(failure: Failure) -> Self {
+        End::Failed(failure)
+    }
 }
 
 // The listing between two fields.
 #[derive(Drop)]
 struct Run {
-    // Whether packages are listed, and no components.
-    packages: bool,
-    left: Left,
+    input: Input<16384>,
+    output: Output<8192>,
     kept: Kept,
-    // How many octets of lines wait to be written.
-    filled: usize,
-    more: bool,
-    cut: bool,
-    // The read or the write that failed.
-    failed: Option<Failure>,
 }
 
 // As many octets at the front of a slice as there are.
 fn front(octets: &[u8], size: usize) -> &[u8] {
-    if octets.len() < size {
-        return octets;
-    }
-    &octets[..size]
+    &octets[..size.min(octets.len())]
 }
-
-// ---- input
-
-// A piece of input, or none at its end. A read that a signal ended before it had any is made again.
-fn read<R: Read>(from: &mut R, piece: &mut [u8]) -> io::Result<usize>
-    ensures { ReadsAtMost result piece.new }
-{
-    for _ in 0..u64::MAX {
-        match from.read(piece) {
-            Err(error) if error.kind() == ErrorKind::Interrupted => {}
-            got => return got,
-        }
-    }
-    Err(io::Error::from(ErrorKind::Interrupted))
-}
-
-// What is left of a piece of input, and where there is nothing another piece; nothing of that at the input's end.
-fn ready<R: Read>(from: &mut R, piece: &mut [u8], left: Left) -> Left
-    ensures { result.end ≤ length piece.new }
-{
-    if left.at < left.end {
-        if left.end <= piece.len() {
-            return left;
-        }
-    }
-    match read(from, piece) {
-        Ok(end) => Left {
-            at: 0,
-            end,
-            unread: None,
-        },
-        Err(error) => Left {
-            at: 0,
-            end: 0,
-            unread: Some(error),
-        },
-    }
-}
-
-fn keep(kept: &mut [u8], at: usize, octet: u8) {
-    if at < kept.len() {
-        kept[at] = octet;
-    }
-}
-
-// Takes so many octets of the input, or fewer at its end, and keeps those that there is room for.
-fn take<R: Read>(
-    from: &mut R,
-    piece: &mut [u8],
-    left: Left,
-    kept: &mut [u8],
-    want: usize,
-) -> Taken {
-    let mut left = left;
-    for count in 0..want {
-        left = ready(from, piece, left);
-        let at = left.at;
-        if left.end <= at {
-            return Taken { left, count };
-        }
-        keep(kept, count, piece[at]);
-        left.at = at + 1;
-    }
-    Taken { left, count: want }
-}
-
-fn take_header<R: Read>(from: &mut R, piece: &mut [u8], left: Left) -> Head {
-    let mut header = [0u8; 3];
-    let taken = take(from, piece, left, &mut header, 3);
-    let left = taken.left;
-    let field = lines::read_field(front(&header, taken.count));
-    Head {
-        left,
-        count: taken.count,
-        field,
-    }
-}
-
-// ---- output
 
 // Writes all of the octets, or says that it cannot, where some of them may be written.
 pub fn write<W: Write>(to: &mut W, octets: &[u8]) -> Result<(), Failure>
@@ -158,187 +62,80 @@ pub fn close<W: Write>(to: &mut W) -> Result<(), Failure>
     to.flush().map_err(Failure::Unwritten)
 }
 
-// Room for the lines of the next item: those that wait are written where the longest have no room behind them.
-fn make_room<W: Write>(to: &mut W, mut run: Run, text: &[u8]) -> Run {
-    if run.filled <= text.len() {
-        if LONGEST_PACKAGE <= text.len() - run.filled {
-            return run;
-        }
-    }
-    run.failed = write(to, front(text, run.filled)).err();
-    run.filled = 0;
-    run.more = run.failed.is_none();
-    run
-}
-
-// Writes the lines that wait, and the last one of a run that was cut. Answers what failed first, where not all was read
-// and written.
-fn finish<W: Write>(to: &mut W, run: Run, text: &[u8]) -> Result<(), Failure> {
-    let written = write(to, front(text, run.filled));
-    if let Some(failure) = run.failed {
-        return Err(failure);
-    }
-    written?;
-    if run.cut {
-        return write(to, b"cut\n");
-    }
-    Ok(())
-}
-
-// ---- fields
-
 impl Run {
-    // No field is left: the input ends, within a field or between two, or cannot be read on.
-    fn stopped(mut self, left: Left, within: bool) -> Self {
-        self.more = false;
-        self.cut = within && left.unread.is_none();
-        self.failed = left.unread.map(Failure::Unread);
-        self
-    }
-}
-
-fn list_item(
-    packages: bool,
-    kept: Kept,
-    tag: u8,
-    contents: &[u8],
-    table: &mut [u16],
-    text: &mut [u8],
-    at: usize,
-) -> Listed {
-    if packages {
-        return lines::list_package(kept, tag, contents, table, text, at);
-    }
-    lines::list_field(kept, tag, contents, table, text, at)
-}
-
-// A whole field. The empty output has room for the longest lines.
-fn list_field<W: Write>(
-    to: &mut W,
-    run: Run,
-    tag: u8,
-    contents: &[u8],
-    table: &mut [u16],
-    text: &mut [u8],
-) -> Run {
-    let mut run = make_room(to, run, text);
-    if !run.more {
-        return run;
-    }
-    let place = run.filled;
-    let kept = run.kept;
-    match list_item(run.packages, kept, tag, contents, table, text, place) {
-        Listed::Done { kept, at } => {
-            run.kept = kept;
-            run.filled = at;
+    fn start() -> Self {
+        Run {
+            input: Input::new(),
+            output: Output::new(),
+            kept: Kept::start(),
         }
-        Listed::NoRoom => {}
     }
-    run
-}
 
-// The contents of a field; of an item one octet more is kept than any has.
-fn list_contents<R: Read, W: Write>(
-    from: &mut R,
-    to: &mut W,
-    mut run: Run,
-    tag: u8,
-    size: usize,
-    piece: &mut [u8],
-    octets: &mut [u8],
-    table: &mut [u16],
-    text: &mut [u8],
-) -> Run {
-    let left = run.left;
-    let taken = take(from, piece, left, octets, size);
-    let left = taken.left;
-    if taken.count < size {
-        return run.stopped(left, true);
+    fn read_header<R: Read>(&mut self, from: &mut R) -> Result<Field, End> {
+        let mut header = [0u8; 3];
+        let count = self.input.take(from, &mut header, 3)?;
+        let end = if count == 0 { End::Whole } else { End::Cut };
+        lines::read_field(front(&header, count)).ok_or(end)
     }
-    run.left = left;
-    list_field(to, run, tag, front(octets, size), table, text)
-}
 
-fn step<R: Read, W: Write>(
-    from: &mut R,
-    to: &mut W,
-    mut run: Run,
-    piece: &mut [u8],
-    octets: &mut [u8],
-    table: &mut [u16],
-    text: &mut [u8],
-) -> Run {
-    let left = run.left;
-    let head = take_header(from, piece, left);
-    let left = head.left;
-    run.left = left;
-    let field = head.field;
-    match field {
-        Field::Cut => run.stopped(left, 0 < head.count),
-        Field::Of { tag, size } => {
-            list_contents(from, to, run, tag, size, piece, octets, table, text)
+    // A field, with octets and a table lent for an item; of an item one octet more is kept than any has.
+    fn step<S: Subject, R: Read, W: Write>(
+        &mut self,
+        from: &mut R,
+        to: &mut W,
+        octets: &mut [u8],
+        table: &mut [u16],
+    ) -> Result<(), End> {
+        let field = self.read_header(from)?;
+        if self.input.take(from, octets, field.size)? < field.size {
+            return Err(End::Cut);
+        }
+        let contents = front(octets, field.size);
+        self.kept = self
+            .output
+            .list::<S, W>(to, self.kept, field.tag, contents, table)?;
+        Ok(())
+    }
+
+    // Writes the lines that wait, and the last one of an input that is cut. Answers what failed first, where not all
+    // was read and written.
+    fn finish<W: Write>(&mut self, to: &mut W, end: End) -> Result<(), Failure> {
+        let written = self.output.write(to);
+        match end {
+            End::Whole => written,
+            End::Cut => {
+                written?;
+                write(to, b"cut\n")
+            }
+            End::Failed(failure) => Err(failure),
         }
     }
 }
 
-// Lists the fields of the input. A proved loop has to end, and nothing says that the input does. So the loop has a
-// number of turns that no run uses up. Answers what failed first, where not all was read and written.
-fn list_fields<R: Read, W: Write>(
+// Lists the items of the input, with octets and a table lent for one of them. A proved loop has to end, and nothing
+// says that the input does. So the loop has a number of turns that no run uses up. Answers what failed first, where not
+// all was read and written.
+pub fn list<S: Subject, R: Read, W: Write>(
     from: &mut R,
     to: &mut W,
-    packages: bool,
     octets: &mut [u8],
     table: &mut [u16],
 ) -> Result<(), Failure> {
-    let mut pieces = [0u8; 16384];
-    let piece: &mut [u8] = &mut pieces;
-    let mut texts = [0u8; 8192];
-    let text: &mut [u8] = &mut texts;
-    let mut run = Run {
-        packages,
-        left: Left {
-            at: 0,
-            end: 0,
-            unread: None,
-        },
-        kept: Kept::start(),
-        filled: 0,
-        more: true,
-        cut: false,
-        failed: None,
-    };
+    let mut run = Run::start();
     for _ in 0..u64::MAX {
-        if !run.more {
-            break;
+        if let Err(end) = run.step::<S, R, W>(from, to, octets, table) {
+            return run.finish(to, end);
         }
-        run = step(from, to, run, piece, octets, table, text);
     }
-    finish(to, run, text)
-}
-
-// Lists the components of the input, with octets and a table lent for one of them.
-pub fn list<R: Read, W: Write>(
-    from: &mut R,
-    to: &mut W,
-    component: &mut [u8],
-    table: &mut [u16],
-) -> Result<(), Failure> {
-    list_fields(from, to, false, component, table)
-}
-
-// Lists the packages of the input, with octets and a table lent for one of them.
-pub fn list_packages<R: Read, W: Write>(
-    from: &mut R,
-    to: &mut W,
-    package: &mut [u8],
-    table: &mut [u16],
-) -> Result<(), Failure> {
-    list_fields(from, to, true, package, table)
+    run.finish(to, End::Whole)
 }
 
 #[cfg(test)]
 mod tests {
     use super::*;
+    use lines::Components;
+    use std::io;
+    use std::io::ErrorKind;
     use std::test::Fail;
 
     // An octet at a time, with an interruption before each.
@@ -394,7 +191,7 @@ mod tests {
             let mut to = Vec::new(rt.alloc());
             let mut component = [0u8; 4097];
             let mut table = [0u16; 320];
-            let ended = list(&mut from, &mut to, &mut component, &mut table);
+            let ended = list::<Components, _, _>(&mut from, &mut to, &mut component, &mut table);
             assert_eq!(rt; ended.is_ok(), whole);
             assert_eq!(rt; to.as_slice(), text.as_bytes());
         }

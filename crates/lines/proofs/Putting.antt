@@ -1,30 +1,28 @@
 -- The laws of octets written where there is room.
-use Rattle.std.proofs.Common.{◌≡◌, ℕ, ◌+◌, ◌<◌, ◌≤◌, length, get_or, set, sym, ◌∙◌, add-one, le-leb}
-use lib.Seq.{paste, paste-suc, take-length}
-use borrow.Author.Tests.{lt-leb}
+use Rattle.std.proofs.Common.{◌≡◌, ℕ, ◌+◌, ◌-◌, Bool, true, false, nat_le, Result, Ok, Err, length, take, drop, sym, ◌∙◌, append_assoc, arith, drop-drop}
+use borrow.Rule.Slice.PartMut.{put_mid}
 use Rattle.element.specs.Octets.{Octets}
 use Rattle.element.specs.Field.{put, output_after}
-use Rattle.element.proofs.FieldLaws.{roomy, cramped}
-use Rattle.lines.specs.declared.Line as L
-use Rattle.lines.specs.declared.Line.TheVariants as LV
-use Rattle.lines.specs.Line.{line_written}
+use Rattle.lines.specs.declared.NoRoom as N
+use Rattle.lines.specs.Line.{no_room, line_written}
 
 module _ (line : Octets) (at : ℕ) (out : Octets) where
-  -- one octet more of those that are copied one by one
-  pub pasted : (i : ℕ) → at + i < length out → i < length line → {so_far : Octets} → so_far ≡ paste out at line i →
-      set so_far (at + i) (get_or line i 0) ≡ paste out at line (i + 1)
-  pasted i h k e = rw (e, add-one) (paste-suc out at line i 0 h k)
+  -- a part of the output that is overwritten with the line
+  part : {k : ℕ} → k ≡ length line → {now : Octets} → now ≡ line → put_mid at k out now ≡ put line at out
+  unfolding put
+  part e f = rw (e, f, drop-drop (length line) at out) (sym (append_assoc (take at out) line (drop (at + length line) out)))
 
-  pub fits : at + length line ≤ length out → {after : Octets} → after ≡ paste out at line (length line) →
-      (LV.Written (at + length line) ≡ line_written line at out) × (after ≡ output_after line at out)
-  unfolding line_written put
-  fits h e = (simp (le-leb (at + length line) (length out) h), e ∙ simp take-length (sym (roomy line at out h)))
+  module _ {room : Bool} (is : room ≡ nat_le (at + length line) (length out)) where
+    pub fits : room ≡ true → {now : Octets} → now ≡ line →
+        (Ok (at + length line) ≡ line_written line at out) × (put_mid at (at + length line - at) out now ≡ output_after line at out)
+    unfolding line_written output_after
+    fits e f = let there = sym is ∙ e in (simp there, part (omega arith) f ∙ simp there)
 
-  pub spills : length out < at + length line → (LV.NoRoom ≡ line_written line at out) × (out ≡ output_after line at out)
-  unfolding line_written
-  spills h = (simp (lt-leb (at + length line) (length out) h), sym (cramped line at out h))
+    pub spills : room ≡ false → (Err no_room ≡ line_written line at out) × (out ≡ output_after line at out)
+    unfolding line_written output_after
+    spills e = let there = sym is ∙ e in (simp there, simp there)
 
 -- the same octets, by another name
-pub named : (at : ℕ) (out : Octets) {x line : Octets} → x ≡ line → {w : L.Line} {after : Octets} →
+pub named : (at : ℕ) (out : Octets) {x line : Octets} → x ≡ line → {w : Result ℕ N.NoRoom} {after : Octets} →
     (w ≡ line_written x at out) × (after ≡ output_after x at out) → (w ≡ line_written line at out) × (after ≡ output_after line at out)
 named at out e p = rw e at p

@@ -1,10 +1,10 @@
 -- The line of an item, and what is left of a lent output where it is written.
 use Rattle.std.specs.Prelude.{◌≡◌, ℕ, ◌+◌, [], ◌∷◌, ◌++◌, length, drop, nat_le}
+use Rattle.std.specs.Prelude.{Result, Ok, Err}
 use Rattle.element.specs.Octets.{Octets, if}
 use Rattle.element.specs.Answer.{Answer, accepted, refused}
 use Rattle.operation.specs.Caller.{Told}
-use Rattle.lines.specs.declared.Line as L
-use Rattle.lines.specs.declared.Line.TheVariants as LV
+use Rattle.lines.specs.declared.NoRoom as N
 use Rattle.lines.specs.Decimal.{decimal}
 
 abbrev pub blank : ℕ
@@ -30,9 +30,13 @@ unfoldable pub line_of : (item : ℕ) → Answer Told → Octets
 line_of item (accepted t) = row item 0 0 t.named t.other
 line_of item (refused number detail) = row item number detail 0 0
 
+-- the one value of `NoRoom`
+abbrev pub no_room : N.NoRoom
+no_room = record {}
+
 -- where a line ends, where there is room for it
-unfoldable pub line_written : (line : Octets) (at : ℕ) (out : Octets) → L.Line
-line_written line at out = if (nat_le (at + length line) (length out)) (LV.Written (at + length line)) LV.NoRoom
+unfoldable pub line_written : (line : Octets) (at : ℕ) (out : Octets) → Result ℕ N.NoRoom
+line_written line at out = if (nat_le (at + length line) (length out)) (Ok (at + length line)) (Err no_room)
 
 -- octets put down in front of what stands from `at` on; what stands before them is not said
 pub record Front (octets : Octets) (at : ℕ) (text : Octets) (start : ℕ) (after : Octets) : Type 0 where

@@ -1,18 +1,17 @@
 -- The listing: what a tagged field does to the run, the lines of a list of fields, and what is printed of an input.
 use Rattle.std.specs.Prelude.{ℕ, ◌+◌, ◌/◌, ◌%◌, ◌^◌, Bool, false, ◌&&◌, List, [], ◌∷◌, ◌++◌, length, drop, ◌==◌}
-use Rattle.std.specs.Prelude.{nat_le, nat_lt, slice_index}
+use Rattle.std.specs.Prelude.{Option, Some, None, Result, Ok, Err, nat_le, nat_lt, slice_index}
 use Rattle.element.specs.Octets.{Octets, if}
 use Rattle.element.specs.Field.{put}
 use Rattle.component.specs.Table.{table_size}
 use Rattle.operation.specs.Reading.{reading, table_after}
 use Rattle.operation.specs.Told.{told}
 use Rattle.lines.specs.declared.Field as F
-use Rattle.lines.specs.declared.Field.TheVariants as FV
 use Rattle.lines.specs.declared.Kept as K
 use Rattle.lines.specs.declared.Listed as L
-use Rattle.lines.specs.declared.Listed.TheVariants as LV
+use Rattle.lines.specs.declared.NoRoom as N
 use Rattle.lines.specs.Header.{field_at}
-use Rattle.lines.specs.Line.{longest, line_of}
+use Rattle.lines.specs.Line.{longest, line_of, no_room}
 
 pub record Tagged : Type 0 where
   pub tag : ℕ
@@ -87,8 +86,9 @@ module _ (x : Subject) (kept : K.Kept) (f : Tagged) (at : ℕ) (table : List ℕ
   abbrev pub lines_there : Octets
   lines_there = lines_for x (length table) kept f
 
-  unfoldable pub listed : L.Listed
-  listed = if roomy (LV.Done (after x.tag kept f) (at + length lines_there)) LV.NoRoom
+  unfoldable pub listed : Result L.Listed N.NoRoom
+  listed =
+      if roomy (Ok (record { kept = after x.tag kept f; at = at + length lines_there })) (Err no_room)
 
   unfoldable pub text_left : Octets
   text_left = if roomy (put lines_there at text) text
@@ -99,9 +99,9 @@ module _ (x : Subject) (kept : K.Kept) (f : Tagged) (at : ℕ) (table : List ℕ
 
 -- ---- the fields of an input
 -- a field is whole once it has as many octets as its header says
-unfoldable pub fills : Octets → F.Field → Bool
-fills s FV.Cut = false
-fills s (FV.Of tag size) = nat_le (3 + size) (length s)
+unfoldable pub fills : Octets → Option F.Field → Bool
+fills s None = false
+fills s (Some f) = nat_le (3 + f.size) (length s)
 
 unfoldable pub whole : Octets → Bool
 whole s = fills s (field_at s)

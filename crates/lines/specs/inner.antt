@@ -1,1 +1,2 @@
 pub mod Parcels
+pub mod Rows

@@ -2,6 +2,7 @@
 #![tactic(auto)]
 
 use fields::Failure;
+use lines::Components;
 use std::io::{Read, Write};
 use std::process::ExitCode;
 
@@ -9,7 +10,7 @@ fn run<R: Read, W: Write>(from: &mut R, to: &mut W) -> Result<(), Failure> {
     fields::write(to, b"item answer detail named other\n")?;
     let mut component = [0u8; 4097];
     let mut table = [0u16; component::TABLE];
-    fields::list(from, to, &mut component, &mut table)?;
+    fields::list::<Components, R, W>(from, to, &mut component, &mut table)?;
     fields::close(to)
 }
 

@@ -7,46 +7,35 @@ use mathlib.Core.List.{List, [], ◌∷◌}
 use lib.ListN.{length, get_or, drop, drop_of_length-le}
 use lib.Seq.{drop-cons}
 use lib.Dec.{eqb}
+use Rattle.std.specs.List.{list_any, slice_get}
+use Rattle.std.specs.Option.{option_map}
 use borrow.Author.Tests.{eqb-true, eq-eqb, ne_eqb, not-true}
 use native.Mathlib.Numerals.{add-one}
-use native.Mathlib.Omega.{arith}
 use Rattle.element.specs.Answer.{Answer, accepted, refused, ◌>>◌, check}
 use Rattle.operation.specs.Row.{Row, Line, must, one_of, any_of, may, members, some_of, among, asks, asks_nothing, group_last, Item, on_line, named, number_of}
 use Rattle.operation.specs.Judge.{occurs, last_mark, met, present, doubled, single}
 use Rattle.operation.specs.inner.Coded.{holds, must_of, group_of, between, choice, Asks}
-use Rattle.operation.specs.inner.Firsts.{lacking_all, lacking}
+use Rattle.operation.specs.inner.Firsts.{lacking_all, lacking, missing_in}
 use Rattle.operation.proofs.Lines.{each, self, some_same}
 
--- ---- the walk over a group
+-- ---- a group
 
-module _ (group seen : List ℕ) where
-  -- what is left of it from `at` on; it gives the first
-  abbrev pub group_from : (at : ℕ) → Answer Unit
-  group_from at = check (some_of (holds seen) (drop at group)) 13 (number_of (get_or group 0 0))
+some_is_any : (p : ℕ → Bool) (ks : List ℕ) → some_of p ks ≡ list_any p ks
+unfolding some_of
+some_is_any p [] = refl
+some_is_any p (k ∷ ks) = rw (some_is_any p ks) refl
 
-  module _ (at : ℕ) where
-    pub none_held : length group ≤ at → refused 13 (get_or group 0 0 / 2) ≡ group_from at
-    unfolding some_of number_of
-    none_held h = rw (drop_of_length-le group h)
-
-    module _ (h : at < length group) {k : ℕ} (f : k ≡ get_or group at 0) {a : Bool} (g : a ≡ holds seen k) where
-      pub one_held : a ≡ true → accepted tt ≡ group_from at
-      unfolding some_of
-      one_held e = rw (drop-cons group at 0 h, ← f, ← g, e)
-
-      pub not_held : a ≡ false → group_from (at + 1) ≡ group_from at
-      unfolding some_of
-      not_held e = rw (add-one, drop-cons group at 0 h, ← f, ← g, e)
-
-pub no_group : (group seen : List ℕ) → length group ≡ 0 → accepted tt ≡ lacking_all group seen
+pub one_noted : (group seen : List ℕ) → list_any (holds seen) group ≡ true → accepted tt ≡ lacking_all group seen
 unfolding lacking_all
-no_group [] seen h = refl
-no_group (k ∷ ks) seen h = absurd (omega arith)
+one_noted [] seen e = refl
+one_noted (k ∷ ks) seen e = rw (some_is_any (holds seen) (k ∷ ks) ∙ e) refl
 
-pub a_group : (group seen : List ℕ) → (length group ≡ 0 → ⊥) → lacking_all group seen ≡ group_from group seen 0
-unfolding lacking_all
-a_group [] seen h = absurd (h refl)
-a_group (k ∷ ks) seen h = refl
+-- it gives the first; no members are no group
+pub none_noted : (group seen : List ℕ) → list_any (holds seen) group ≡ false →
+    lacking_all group seen ≡ missing_in (option_map (λ k. k / 2) (slice_get group 0))
+unfolding lacking_all number_of
+none_noted [] seen e = refl
+none_noted (k ∷ ks) seen e = rw (some_is_any (holds seen) (k ∷ ks) ∙ e) refl
 
 -- ---- the walk over what must occur
 

@@ -11,8 +11,9 @@ use Rattle.element.specs.Octets.{if}
 use Rattle.element.specs.Answer.{Answer, accepted, refused, ◌>>=◌}
 use Rattle.component.specs.Table.{Entry, table_with, held, held_from}
 use Rattle.component.proofs.Entries.{holds}
-use Rattle.operation.specs.declared.Judged as J
-use Rattle.operation.specs.declared.Judged.TheVariants as JV
+use Rattle.std.specs.Prelude.{Result, Ok, Err}
+use Rattle.operation.specs.declared.engine.RowFault as F
+use Rattle.operation.specs.declared.engine.RowFault.TheVariants as FV
 use Rattle.operation.specs.Row.{Row, Item, named}
 use Rattle.operation.specs.Judge.{judge, count_named, remark}
 use Rattle.operation.specs.Items.{item_of}
@@ -69,13 +70,13 @@ module _ (kind specifier count : ℕ) (t : List ℕ) where
       go row (accepted u) q = omega (arith, all_counted row items, length_items t 0 count)
       go row (refused n d) q = λ _ h. let (x, m, e) = pointed_at (row_faulty row items q) h in omega (arith, mark_below t 0 count x m)
 
-  pub pointing : {below : ℕ} → count ≤ below → (j : J.Judged) → judged_in j ≡ verdict kind specifier items → Pointing below j
+  pub pointing : {below : ℕ} → count ≤ below → (j : Result ℕ F.RowFault) → judged_in j ≡ verdict kind specifier items → Pointing below j
   pointing {below} h j e = go j (rw (← e) at within)
     where
-      go : (j : J.Judged) → Within (judged_in j) → Pointing below j
-      go (JV.Fits named) w = omega arith
-      go JV.NoRow w = tt
-      go (JV.Again entry) w = omega (arith, w (λ e. omega arith) (λ e. omega arith))
-      go (JV.WrongSize entry) w = omega (arith, w (λ e. omega arith) (λ e. omega arith))
-      go (JV.Missing number) w = tt
-      go (JV.Both entry) w = omega (arith, w (λ e. omega arith) (λ e. omega arith))
+      go : (j : Result ℕ F.RowFault) → Within (judged_in j) → Pointing below j
+      go (Ok named) w = omega arith
+      go (Err FV.NoRow) w = tt
+      go (Err (FV.Again entry)) w = omega (arith, w (λ e. omega arith) (λ e. omega arith))
+      go (Err (FV.WrongSize entry)) w = omega (arith, w (λ e. omega arith) (λ e. omega arith))
+      go (Err (FV.Missing number)) w = tt
+      go (Err (FV.Both entry)) w = omega (arith, w (λ e. omega arith) (λ e. omega arith))

@@ -7,11 +7,11 @@ use borrow.Author.Tests.{le-leb, lt-leb}
 use native.Mathlib.Omega.{arith}
 use Rattle.element.specs.Octets.{Octets, AreOctets}
 use Rattle.element.specs.Answer.{Answer, accepted, refused}
-use Rattle.component.specs.declared.Count.TheVariants as CV
 use Rattle.component.specs.Layout.{Head, head_at, parameters, Layout, layout_at}
 use Rattle.component.specs.Table.{table_size, table_with}
 use Rattle.component.proofs.Laying.{ordered, laid, not_laid, no_head}
-use Rattle.operation.specs.declared.Judged as J
+use Rattle.std.specs.Prelude.{Result, Ok}
+use Rattle.operation.specs.declared.engine.RowFault as F
 use Rattle.operation.specs.inner.Coded.{items_from, verdict, judged_in}
 use Rattle.operation.specs.Caller.{Told}
 use Rattle.operation.specs.Reading.{Shown, operation_in, reading_at, table_after}
@@ -49,7 +49,7 @@ module _ (s : Octets) (from given : ℕ) (t : List ℕ) where
       pub stopped : {n d : ℕ} → parameters 64 s g.set (length s) ≡ refused n d → Outcome answer t (refused n d) t
       stopped p = not_laid_out (not_laid s o from e p)
 
-      module _ (z : List ℕ) {count : ℕ} {sheet : List ℕ} (walk : Walked (parameters 64 s g.set (length s)) (CV.Of count) z sheet) where
+      module _ (z : List ℕ) {count : ℕ} {sheet : List ℕ} (walk : Walked (parameters 64 s g.set (length s)) (Ok count) z sheet) where
         -- the layout that the sheet holds
         held : (l : Layout) × (layout_at s from ≡ accepted l) × (l.head ≡ g) × (count ≡ length l.entries) × (sheet ≡ table_with l.entries z)
         held = let (es, p, n, q) = walk in (record { head = g; entries = es }, laid s o from e es p, refl, n, q)
@@ -57,7 +57,7 @@ module _ (s : Octets) (from given : ℕ) (t : List ℕ) where
         pub few : count ≤ 64
         few = let (l, f, _, n, _) = held in omega (arith, (ordered s o from f).few)
 
-        module _ (j : J.Judged) (q : judged_in j ≡ verdict g.kind (operation_in s g given) (items_from sheet 0 count)) where
+        module _ (j : Result ℕ F.RowFault) (q : judged_in j ≡ verdict g.kind (operation_in s g given) (items_from sheet 0 count)) where
           same : (l : Layout) → layout_at s from ≡ accepted l → l.head ≡ g → count ≡ length l.entries → sheet ≡ table_with l.entries z →
               Pointing count j × Outcome answer t (finished s g given count sheet (judged_in j)) (table_finished count sheet t (judged_in j))
           same l f a b c =

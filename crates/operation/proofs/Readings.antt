@@ -13,7 +13,7 @@ use native.Mathlib.Omega.{arith}
 use Rattle.element.specs.Octets.{Octets, if}
 use Rattle.element.specs.Answer.{Answer, accepted, refused, ◌>>◌, check}
 use Rattle.component.specs.Table.{table_size}
-use Rattle.component.specs.Layout.{Head, head_at, Layout, layout_from, layout_at, layout_of, code_octets, operation_place}
+use Rattle.component.specs.Layout.{Head, head_at, Layout, layout_at, layout_of, code_octets, operation_place}
 use Rattle.component.specs.Types.{format_of}
 use Rattle.component.specs.Grammar.{Component}
 use Rattle.component.proofs.Shown.{Outlines}
@@ -22,7 +22,7 @@ use Rattle.operation.specs.Row.{Row}
 use Rattle.operation.specs.Judge.{judge}
 use Rattle.operation.specs.Rows.{Operation, operations}
 use Rattle.operation.specs.Finding.{find, rowed, row_of}
-use Rattle.operation.specs.Reading.{operation_in, shown_by, shown_of, reading_from, reading_at, reading}
+use Rattle.operation.specs.Reading.{operation_in, shown_by, shown_of, reading_at, reading}
 use Rattle.operation.specs.Items.{item_of}
 use Rattle.operation.specs.Codes.{operation_of}
 use Rattle.operation.specs.Demands.{its_operation}
@@ -84,11 +84,6 @@ module _ (s : Octets) (given : ℕ) (l : Layout) where
 pub laid_reads : (s : Octets) (from given room : ℕ) {l : Layout} → table_size ≤ room → layout_at s from ≡ accepted l → reading_at s from given room ≡ shown_of s given l
 unfolding reading_at
 laid_reads s from given room h e = simp (le-leb table_size room, e)
-
--- where 1 and 2 are not the answer
-pub within : (s : Octets) (from given room : ℕ) → table_size ≤ room → from < length s → length s ≤ 4096 → reading_at s from given room ≡ reading_from s from given
-unfolding reading_at reading_from layout_at layout_from head_at
-within s from given room h k m = simp (le-leb table_size room, lt-ltb from (length s), le-leb (length s) 4096)
 
 module _ (s : Octets) (given room : ℕ) {l : Layout} (h : table_size ≤ room) (e : layout_of s ≡ accepted l) where
   pub reads : {row : Row} → row_of l.head.kind (operation_in s l.head given) (operation_place l.head) ≡ accepted row →

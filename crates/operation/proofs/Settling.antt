@@ -1,6 +1,6 @@
 -- 13 and 14 behind a walk that came to the end, by what it noted; and an arm of the code, which holds a row.
 -- Assumes nothing.
-use Prim.Native.Nat.{ℕ, ◌<◌, ◌≤◌}
+use Prim.Native.Nat.{ℕ}
 use mathlib.Core.Path.{◌≡◌, ap, ◌∙◌}
 use mathlib.Core.Bool.{true, false, ◌&&◌, and-false}
 use mathlib.Core.List.{List}
@@ -10,10 +10,11 @@ use Rattle.element.specs.Answer.{accepted, refused}
 use Rattle.operation.specs.Row.{Row, Item, one_of, group_last}
 use Rattle.operation.specs.Judge.{last_mark, present}
 use Rattle.operation.specs.Finding.{row_of}
-use Rattle.operation.specs.inner.Coded.{holds, keys_in, words_of, apart, must_of, group_of, between, sound, Asks, judgement, verdict, judged_in}
-use Rattle.operation.specs.inner.Firsts.{lacking, Clear, Walked, Faulted, Settles}
-use Rattle.operation.specs.declared.Judged as J
-use Rattle.operation.specs.declared.Notes as N
+use Rattle.operation.specs.inner.Coded.{holds, keys_in, words_of, apart, must_of, group_of, between, sound, Asks, judgement, verdict, judged_in, Judges}
+use Rattle.operation.specs.inner.Firsts.{lacking, Clear}
+use Rattle.std.specs.Prelude.{Result}
+use Rattle.operation.specs.declared.engine.RowFault as F
+use Rattle.operation.specs.declared.engine.Notes as N
 use Rattle.operation.proofs.Lines.{each}
 use Rattle.operation.proofs.Musts.{by_notes, by_one, by_both}
 use Rattle.operation.proofs.Sets.{row_names}
@@ -45,19 +46,13 @@ module _ (row : Row) (list group : List ℕ) (one other : ℕ) (notes : N.Notes)
     pub not_other : holds seen other ≡ false → accepted notes.named ≡ judgement row xs
     not_other b = fits λ _. ap (λ t. holds seen one && t) b ∙ and-false (holds seen one)
 
--- ---- an arm: the words, the list and the group that it holds are those of the paper's row, and its walk, what names its fault and what settles it
--- judge by that
-module _ (kind : ℕ) {specifier k : ℕ} {row : Row} {names : List ℕ} {count : ℕ} {xs : List Item} {notes : N.Notes} {r : J.Judged}
-    (s : specifier ≡ k) (e : row_of kind k 0 ≡ accepted row) (w : names ≡ words_of row (length names)) where
-  pub faulty : apart (length names) (keys_in row) ≡ true → Walked notes names count xs → notes.stop < count → Faulted r names notes.stop xs →
-      judged_in r ≡ verdict kind specifier xs
-  faulty a walked t f = let n = row_names row w a in Verdict.found xs kind s e (Verdict.faulty row xs (walked.stopped t row n) (f.judged row n))
-
-  pub settled : {list group : List ℕ} {one other : ℕ} → list ≡ must_of row → group ≡ group_of row → sound row (length names) one other ≡ true →
-      Walked notes names count xs → count ≤ notes.stop → Settles r list group one other notes xs → judged_in r ≡ verdict kind specifier xs
+-- ---- an arm: the words, the lists and the choice that it hands on are those of the paper's row
+module _ (kind : ℕ) {specifier k : ℕ} {row : Row} {list group : List ℕ} {one other : ℕ} {names : List ℕ} {xs : List Item} {r : Result ℕ F.RowFault} where
+  pub arm : specifier ≡ k → row_of kind k 0 ≡ accepted row → names ≡ words_of row (length names) → list ≡ must_of row → group ≡ group_of row →
+      sound row (length names) one other ≡ true → Judges r list group one other names xs → judged_in r ≡ verdict kind specifier xs
   unfolding sound
-  settled l g h walked t f =
+  arm s e w l g h j =
       let (a, b) = each (apart (length names) (keys_in row)) _ h in
       let (u, i) = each (group_last row) _ b in
       let (c, d) = each (between _ _ row) _ i in
-      Verdict.found xs kind s e (f.judged row (record { listed = l; grouped = g; last = u; chosen = c; two = d }) (walked.through t row (row_names row w a)))
+      Verdict.found xs kind s e (j.judged row (record { listed = l; grouped = g; last = u; chosen = c; two = d }) (row_names row w a))

@@ -11,7 +11,7 @@ use Rattle.operation.specs.Finding.{rowed, row_of, find}
 use Rattle.operation.specs.Rows.{operations}
 use Rattle.operation.specs.inner.Coded.{judgement, verdict, NoneOf}
 use Rattle.operation.specs.inner.Firsts.{Clear}
-use Rattle.operation.specs.declared.Notes as N
+use Rattle.operation.specs.declared.engine.Notes as N
 
 -- ---- the searches
 

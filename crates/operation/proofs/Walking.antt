@@ -9,7 +9,7 @@ use native.Mathlib.Omega.{arith}
 use Rattle.element.specs.Octets.{Octets}
 use Rattle.element.specs.Answer.{Answer, accepted, refused, ◌>>=◌}
 use Rattle.element.proofs.FieldLaws.{put_next, put_stores}
-use Rattle.component.specs.declared.Count.TheVariants as CV
+use Rattle.std.specs.Prelude.{Ok}
 use Rattle.component.specs.Table.{Entry, next, width, numbers_of, numbers, table_with}
 use Rattle.component.specs.Layout.{parameter_from, parameters}
 use Rattle.component.proofs.Entries.{numbers_length}
@@ -48,7 +48,7 @@ module _ (s : Octets) (from : ℕ) (z : List ℕ) where
     none_left h zero = simp (le-leb (length s) at)
     none_left h (suc room) = simp (le-leb (length s) at)
 
-    pub ends : length s ≤ at → Walked (parameters 64 s from (length s)) (CV.Of count) z sheet
+    pub ends : length s ≤ at → Walked (parameters 64 s from (length s)) (Ok count) z sheet
     ends h = (w.entries, w.whole ∙ simp (none_left h (64 - count), append-nil), sym w.many, w.holds)
 
     module _ (h : at < length s) where

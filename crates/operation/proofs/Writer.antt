@@ -1,10 +1,9 @@
--- What `judge_table`, `weigh` and `write` cite: what the row says of the table beside what is measured, as the weighing and the writing that they come to.
+-- What `judge_table`, `weigh_sizes`, `weigh` and `write` cite: what the row says of the table beside what is measured, as the weighing and the writing that they come to.
 use Prim.Native.Nat.{ℕ, zero, suc, ◌+◌, ◌*◌, ◌<◌, ◌≤◌}
 use mathlib.Core.Path.{◌≡◌, refl, sym, ap, ◌∙◌}
 use mathlib.Core.List.{List, [], ◌∷◌}
 use lib.ListN.{length}
 use borrow.Author.Tests.{le-leb, lt-leb}
-use native.Mathlib.Omega.{arith}
 use Rattle.element.specs.Octets.{Octets}
 use Rattle.element.specs.Answer.{Answer, accepted, refused, ◌>>=◌}
 use Rattle.component.specs.declared.Id as D
@@ -17,14 +16,14 @@ use Rattle.component.proofs.Taken.{taken, passed, stopped}
 use Rattle.component.proofs.Measuring.{ready}
 use Rattle.component.proofs.Entries.{stands}
 use Rattle.component.proofs.Putting.{part_length}
-use Rattle.operation.specs.declared.Judged as J
-use Rattle.operation.specs.declared.Judged.TheVariants as JV
+use Rattle.operation.specs.declared.engine.RowFault as F
+use Rattle.operation.specs.declared.engine.RowFault.TheVariants as FV
 use Rattle.operation.specs.Row.{Row}
 use Rattle.operation.specs.Judge.{judge, count_named}
 use Rattle.operation.specs.Finding.{row_of}
-use Rattle.operation.specs.inner.Coded.{item_at, items_from, judgement, verdict, said, judged_in}
+use Rattle.operation.specs.inner.Coded.{item_at, items_from, judgement, verdict, said, fault_in}
 use Rattle.operation.specs.Items.{items_of}
-use Rattle.operation.specs.Writing.{writing}
+use Rattle.operation.specs.Writing.{writing, weighing, weighing_sizes}
 
 -- the items of a table are those of the parameters that it makes
 same_items : (t : List ℕ) (source : Octets) (i n : ℕ) {ps : List Parameter} → entries_from i n t source ≡ accepted ps → items_from t i n ≡ items_of i ps
@@ -87,26 +86,44 @@ module _ (kind : ℕ) (id : D.Id) (code : E.Code) (count : ℕ) (t : List ℕ) (
   unfolding measured
   refuses e f = let (ps, g, _) = taken (entries_of kind id count t source) (sym e) in sym (then g ∙ rw (← f))
 
+-- what is told of an answer is told of its last step
+pub each : {A B C : Type 0} (a : Answer A) (f : A → Answer B) (g : A → Answer C) (h : B → C) →
+    ((x : A) → a ≡ accepted x → (f x >>= λ y. accepted (h y)) ≡ g x) → ((a >>= f) >>= λ y. accepted (h y)) ≡ (a >>= g)
+each (accepted x) f g h k = k x refl
+each (refused n d) f g h k = refl
+
 -- what is weighed of what was measured
-module _ (kind : ℕ) (id : D.Id) (code : E.Code) (count : ℕ) (t : List ℕ) (source : Octets) {A : Type 0} (say : Sizes → A) where
-  abbrev weight : List Parameter → Answer A
-  weight ps = accepted (say (sizes_of kind id.count ps))
+module _ (kind : ℕ) (id : D.Id) (code : E.Code) (count : ℕ) (t : List ℕ) (source : Octets) where
+  abbrev sizes_in : List Parameter → Answer Sizes
+  sizes_in ps = accepted (sizes_of kind id.count ps)
 
   pub weighs : {sizes : Sizes} → accepted sizes ≡ measured kind id count t source → {named : ℕ} → accepted named ≡ said kind code.first count t →
-      accepted (say sizes) ≡ after kind id code count t source weight
-  unfolding measured
-  weighs {sizes} e f = go (entries_of kind id count t source) e ∙ fits kind id code count t source weight f
-    where
-      go : (a : Answer (List Parameter)) → accepted sizes ≡ (a >>= λ ps. accepted (sizes_of kind id.count ps)) → accepted (say sizes) ≡ (a >>= weight)
-      go (accepted ps) g = let k : sizes ≡ sizes_of kind id.count ps = cc in rw k refl
-      go (refused n d) g = let z : ◌≡◌ {A = ℕ} 0 1 = cc in absurd (omega arith)
+      accepted sizes ≡ weighing_sizes kind id code count t source
+  unfolding measured weighing_sizes
+  weighs e f = e ∙ fits kind id code count t source sizes_in f
 
   pub weight_refused : {sizes : Sizes} → accepted sizes ≡ measured kind id count t source → {n d : ℕ} → refused n d ≡ said kind code.first count t →
-      refused n d ≡ after kind id code count t source weight
-  weight_refused e f = refuses kind id code count t source weight e f
+      refused n d ≡ weighing_sizes kind id code count t source
+  unfolding weighing_sizes
+  weight_refused e f = refuses kind id code count t source sizes_in e f
 
-  pub no_weight : {n d : ℕ} → refused n d ≡ measured kind id count t source → refused n d ≡ after kind id code count t source weight
-  no_weight e = not_measured kind id code count t source weight e
+  pub no_weight : {n d : ℕ} → refused n d ≡ measured kind id count t source → refused n d ≡ weighing_sizes kind id code count t source
+  unfolding weighing_sizes
+  no_weight e = not_measured kind id code count t source sizes_in e
+
+  -- and the octets of the whole, by themselves
+  whole : (weighing_sizes kind id code count t source >>= λ z. accepted z.whole) ≡ weighing kind id code count t source
+  unfolding weighing weighing_sizes
+  whole =
+      each (entries_of kind id count t source) _ _ (λ z. z.whole) λ ps _.
+      each (row_of kind code.first 0) _ _ (λ z. z.whole) λ row _.
+      each (judge row (items_of 0 ps)) _ _ (λ z. z.whole) (λ _ _. refl)
+
+  pub whole_weighed : {sizes : Sizes} → accepted sizes ≡ weighing_sizes kind id code count t source → accepted sizes.whole ≡ weighing kind id code count t source
+  whole_weighed e = rw (← e) at whole
+
+  pub whole_refused : {n d : ℕ} → refused n d ≡ weighing_sizes kind id code count t source → refused n d ≡ weighing kind id code count t source
+  whole_refused e = rw (← e) at whole
 
 module _ (kind : ℕ) (id : D.Id) (code : E.Code) (count : ℕ) (t : List ℕ) (source : Octets) where
   -- what the writer leaves in the output
@@ -137,12 +154,11 @@ module _ (kind : ℕ) (id : D.Id) (code : E.Code) (count : ℕ) (t : List ℕ) (
     unfolding writing
     measure_refuses e = unchanged (not_measured kind id code count t source (λ ps. octets_of kind id code ps (length out)) e)
 
-    -- what is not the first case of the engine's answer is a refusal
-    pub row_answers : {sizes : Sizes} → accepted sizes ≡ measured kind id count t source → (j : J.Judged) → ((named : ℕ) → j ≡ JV.Fits named → ⊥) →
-        judged_in j ≡ said kind code.first count t → Outcome (judged_in j) out
-    row_answers e (JV.Fits named) k f = absurd (k named refl)
-    row_answers e JV.NoRow k f = row_refuses e f
-    row_answers e (JV.Again entry) k f = row_refuses e f
-    row_answers e (JV.WrongSize entry) k f = row_refuses e f
-    row_answers e (JV.Missing number) k f = row_refuses e f
-    row_answers e (JV.Both entry) k f = row_refuses e f
+    -- each fault is a refusal
+    pub row_answers : {sizes : Sizes} → accepted sizes ≡ measured kind id count t source → (fault : F.RowFault) →
+        fault_in fault ≡ said kind code.first count t → Outcome (fault_in fault) out
+    row_answers e FV.NoRow f = row_refuses e f
+    row_answers e (FV.Again entry) f = row_refuses e f
+    row_answers e (FV.WrongSize entry) f = row_refuses e f
+    row_answers e (FV.Missing number) f = row_refuses e f
+    row_answers e (FV.Both entry) f = row_refuses e f

@@ -14,5 +14,6 @@ pub mod Writing
 pub mod Told
 pub mod Model
 pub mod Packed
+pub mod Summaries
 pub mod Charts
 pub mod inner

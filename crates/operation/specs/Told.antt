@@ -1,11 +1,11 @@
 -- What each case of the reader's and the writer's answer says: its values, or the paper's number and detail.
-use Rattle.std.specs.Prelude.{ℕ, length}
-use Rattle.element.specs.Answer.{Answer, accepted, refused, ◌>>=◌}
+use Rattle.std.specs.Prelude.{ℕ, Result, length}
+use Rattle.element.specs.Answer.{Answer, accepted, ◌>>=◌}
+use Rattle.element.specs.declared.refusal.Refusal as F
+use Rattle.element.specs.Told.{told as told_by}
+use Rattle.component.specs.Kinds.{octet_of}
 use Rattle.component.specs.Table.{id_of, code_of}
 use Rattle.operation.specs.declared.Reading as R
-use Rattle.operation.specs.declared.Reading.TheVariants as RV
-use Rattle.operation.specs.declared.Writing as W
-use Rattle.operation.specs.declared.Writing.TheVariants as WV
 use Rattle.operation.specs.Reading.{Shown}
 use Rattle.operation.specs.Caller.{Told}
 
@@ -24,11 +24,12 @@ told_of x =
 unfoldable pub told : Answer Shown → Answer Told
 told a = a >>= λ x. accepted (told_of x)
 
-abbrev pub answer_in : R.Reading → Answer Told
-answer_in (RV.Accepted kind id code all named other) =
-    accepted (record { kind = kind; id = id; code = code; all = all; named = named; other = other })
-answer_in (RV.Refused n d) = refused n d
+abbrev pub reading_said : R.Reading → Told
+reading_said r =
+    record { kind = octet_of r.kind; id = r.id; code = r.code; all = r.all; named = r.named; other = r.other }
 
-abbrev pub written_in : W.Writing → Answer ℕ
-written_in (WV.Accepted octets) = accepted octets
-written_in (WV.Refused n d) = refused n d
+abbrev pub answer_in : Result R.Reading F.Refusal → Answer Told
+answer_in r = told_by reading_said r
+
+abbrev pub written_in : Result ℕ F.Refusal → Answer ℕ
+written_in r = told_by (λ n. n) r

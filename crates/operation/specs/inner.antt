@@ -1,4 +1,5 @@
 pub mod Coded
+pub mod Run
 pub mod Firsts
 pub mod Sheet
 pub mod Finishing

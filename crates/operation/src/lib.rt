@@ -7,10 +7,11 @@ mod rows;
 mod sheet;
 mod sizes;
 mod summary;
+mod table;
 
 ghost use Rattle.std.specs.Prelude.{◌≡◌, ◌+◌, ◌*◌, ◌<◌, ◌≤◌, length};
 ghost use Rattle.element.specs.Octets.{between};
-ghost use Rattle.component.specs.Types.{Typed};
+ghost use Rattle.component.specs.Kinds.{octet_of};
 ghost use Rattle.component.specs.Table.{table_size, held, id_of, code_of};
 ghost use Rattle.component.specs.Layout.{code_octets, operation_place};
 ghost use Rattle.component.specs.Told.{count_in, head_said, measure_in};
@@ -23,123 +24,110 @@ ghost use Rattle.operation.specs.inner.Finishing.{
 };
 ghost use Rattle.operation.specs.Codes.{told_code};
 ghost use Rattle.operation.specs.Caller.{order};
-ghost use Rattle.operation.specs.Reading.{reading_at, table_after};
+ghost use Rattle.operation.specs.Reading.{operation_in, reading_at, table_after};
 ghost use Rattle.operation.specs.Writing.{weighing, weighing_sizes};
 ghost use Rattle.operation.specs.Model.{reader, writer};
 ghost use Rattle.operation.specs.Told.{told, answer_in, written_in};
 
-use component::{Code, Count, Head, Heading, Id, Measured, TABLE, WIDTH};
-use engine::wide;
+use component::{Code, Head, Id, Kind, Measured, Span, TABLE, WIDTH};
+use element::{Reason, Refusal};
+use engine::RowFault;
 use rows::{judge_operation, judge_sheet};
 pub use sheet::show_entries;
 use sheet::{copy_numbers, parameters_from};
-pub use summary::{Outline, outline_of, packed, summary_from};
+pub use summary::{Outline, outline_of, packed, summarize, summary_from};
+use table::Entries;
 
-// What the engine says of a run of parameters; it points by entries.
-#[derive(Drop)]
-pub enum Judged {
-    // How many of them the row names.
-    Fits(usize),
-    NoRow,
-    Again(usize),
-    WrongSize(usize),
-    Missing(u16),
-    Both(usize),
-}
-
-#[derive(Drop)]
-pub enum Reading {
-    Accepted {
-        kind: u8,
-        id: Id,
-        code: Code,
-        all: usize,
-        named: usize,
-        other: usize,
-    },
-    Refused {
-        number: u8,
-        detail: u32,
-    },
-}
-
-#[derive(Drop)]
-pub enum Writing {
-    // How many octets were written.
-    Accepted(usize),
-    Refused { number: u8, detail: u32 },
-}
-
-// What a walk over the parameters found: the entry at which it stopped, or their count; how many of them the row names,
-// and their keys.
-#[derive(Drop)]
-struct Notes {
-    stop: usize,
-    named: usize,
-    seen: [u64; 13],
-}
-
-// What must occur and does not.
-#[derive(Drop)]
-enum Missing {
-    None,
-    Number(u16),
+// What is told of a component that is accepted: its type, ID octets and code, and how many parameters it has, those that
+// the row names and the others.
+#[derive(Clone, Copy, Debug, PartialEq, Eq)]
+pub struct Reading {
+    pub kind: Kind,
+    pub id: Id,
+    pub code: Code,
+    pub all: usize,
+    pub named: usize,
+    pub other: usize,
 }
 
 // ---- reader
 
 // The octets of the component ID.
-fn id_of(octets: &[u8], heading: Heading) -> Id
-    requires { (heading.id ≤ heading.behind) × (heading.behind ≤ heading.id + 2)
-        × (heading.behind ≤ length octets.now) × (length octets.now ≤ 4096) }
-    ensures { result ≡ id_of (between heading.id heading.behind octets.now) }
+#[tactic(auto, unfolding(component::specs::Table::id_of))]
+fn id_of(octets: &[u8], id: Span) -> Id
+    requires { (id.start ≤ id.end) × (id.end ≤ id.start + 2) × (id.end ≤ length octets.now) }
+    ensures { result ≡ id_of (between id.start id.end octets.now) }
 {
-    let start = heading.id;
-    let end = heading.behind;
-    if end == start + 1 {
-        return Id {
+    match &octets[id.start..id.end] {
+        &[first, second] => Id {
+            count: 2,
+            first,
+            second,
+        },
+        &[first] => Id {
             count: 1,
-            first: octets[start],
+            first,
             second: 0,
-        };
-    }
-    if end == start {
-        return Id {
+        },
+        _ => Id {
             count: 0,
             first: 0,
             second: 0,
-        };
-    }
-    Id {
-        count: 2,
-        first: octets[start],
-        second: octets[start + 1],
+        },
     }
 }
 
 // The code that is told: a RESULT's is the specifier that is handed in, and a REJECT alone has a second octet.
-fn code_of(octets: &[u8], heading: Heading, given: u8) -> Code
-    requires { Typed heading.kind × (heading.code + 1 < length octets.now) × (length octets.now ≤ 4096) }
-    ensures { result ≡ code_of (told_code heading.kind
-        (code_octets octets.now (head_said heading)) given) }
+#[tactic(auto, unfolding(crate::specs::Codes::told_code, component::specs::Layout::code_octets, component::specs::Table::code_of, component::specs::Types::format_of))]
+fn code_of(octets: &[u8], head: Head, given: u8) -> Code
+    requires { (head.code + 1 < length octets.now) × (length octets.now ≤ 4096) }
+    ensures { result ≡ code_of (told_code (octet_of head.kind) (code_octets octets.now (head_said head)) given) }
 {
-    let kind = heading.kind;
-    let at = heading.code;
-    let first = if kind == 0xEA { given } else { octets[at] };
-    let second = if kind == 0xEC { octets[at + 1] } else { 0 };
-    Code { first, second }
+    let at = head.code;
+    match head.kind {
+        Kind::Invoke => Code {
+            first: octets[at],
+            second: 0,
+        },
+        Kind::Result => Code {
+            first: given,
+            second: 0,
+        },
+        Kind::Error => Code {
+            first: octets[at],
+            second: 0,
+        },
+        Kind::Reject => Code {
+            first: octets[at],
+            second: octets[at + 1],
+        },
+    }
 }
 
 // Where the operation of a component stands, 0 but in an INVOKE.
-fn operation_place(heading: Heading) -> u32
-    requires { heading.code ≤ 4096 }
-    ensures { result ≡ operation_place (head_said heading) }
+#[tactic(auto, unfolding(component::specs::Layout::operation_place))]
+fn operation_place(head: Head) -> u32
+    requires { head.code ≤ 4096 }
+    ensures { result ≡ operation_place (head_said head) }
 {
-    let kind = heading.kind;
-    if kind == 0xE9 {
-        return heading.code as u32;
+    match head.kind {
+        Kind::Invoke => head.code as u32,
+        _ => 0,
     }
-    0
+}
+
+// The operation that its row is found by: an INVOKE's own code says it, else it is handed in.
+#[tactic(auto, unfolding(crate::specs::Reading::operation_in, crate::specs::Codes::operation_of))]
+fn operation_of(octets: &[u8], head: Head, given: u8) -> u8
+    requires { head.code < length octets.now }
+    ensures { result ≡ operation_in octets.now (head_said head) given }
+{
+    match head.kind {
+        Kind::Invoke => octets[head.code],
+        Kind::Result => given,
+        Kind::Error => given,
+        Kind::Reject => given,
+    }
 }
 
 // The place of an entry of the sheet.
@@ -147,96 +135,77 @@ fn place_of(sheet: &[u16], entry: usize) -> u32
     requires { (entry < 64) × (table_size ≤ length sheet.now) }
     ensures { result ≡ (held sheet.now entry).place }
 {
-    wide(sheet[WIDTH * entry + 4]) as u32
+    u32::from(sheet[WIDTH * entry + 4])
 }
 
 // What the row says of the parameters: where all fits they are shown, else a refusal points into the component.
+#[tactic(auto, unfolding(crate::specs::inner::Finishing::finished, crate::specs::inner::Finishing::table_finished, crate::specs::inner::Finishing::detail_of))]
 fn finish(
     octets: &[u8],
-    heading: Heading,
+    head: Head,
     given: u8,
     count: usize,
-    judged: Judged,
+    judged: Result<usize, RowFault>,
     sheet: &[u16],
     table: &mut [u16],
-) -> Reading
-    requires { Headed octets.now heading × (count ≤ 64) × (table_size ≤ length sheet.now)
+) -> Result<Reading, Refusal>
+    requires { Headed octets.now head × (count ≤ 64) × (table_size ≤ length sheet.now)
         × (table_size ≤ length table.old) × Pointing count judged }
     ensures { (answer_in result ≡
-        finished octets.now (head_said heading) given count sheet.now (judged_in judged))
+        finished octets.now (head_said head) given count sheet.now (judged_in judged))
         × (table.new ≡ table_finished count sheet.now table.old (judged_in judged)) }
 {
     match judged {
-        Judged::Fits(named) => {
+        Ok(named) => {
             copy_numbers(sheet, table, WIDTH * count);
-            Reading::Accepted {
-                kind: heading.kind,
-                id: id_of(octets, heading),
-                code: code_of(octets, heading, given),
+            Ok(Reading {
+                kind: head.kind,
+                id: id_of(octets, head.id),
+                code: code_of(octets, head, given),
                 all: count,
                 named,
                 other: count - named,
-            }
+            })
         }
-        Judged::NoRow => Reading::Refused {
-            number: 11,
-            detail: operation_place(heading),
-        },
-        Judged::Again(entry) => Reading::Refused {
-            number: 12,
-            detail: place_of(sheet, entry),
-        },
-        Judged::WrongSize(entry) => Reading::Refused {
-            number: 26,
-            detail: place_of(sheet, entry),
-        },
-        Judged::Missing(number) => Reading::Refused {
-            number: 13,
-            detail: number as u32,
-        },
-        Judged::Both(entry) => Reading::Refused {
-            number: 14,
-            detail: place_of(sheet, entry),
-        },
+        Err(RowFault::NoRow) => Err(Reason::NoRow.at(operation_place(head))),
+        Err(RowFault::Again(entry)) => Err(Reason::Again.at(place_of(sheet, entry))),
+        Err(RowFault::WrongSize(entry)) => Err(Reason::WrongSize.at(place_of(sheet, entry))),
+        Err(RowFault::Missing(number)) => Err(Reason::Missing.at(u32::from(number))),
+        Err(RowFault::Both(entry)) => Err(Reason::Both.at(place_of(sheet, entry))),
     }
 }
 
 // Reads the component that stands from `from` to the end of the octets. A RESULT is of the operation whose specifier is
 // handed in, which plays no part in the others; an entry for each parameter goes to the lent table, which a refusal
 // leaves as it was.
-pub fn read_from(octets: &[u8], from: usize, specifier: u8, table: &mut [u16]) -> Reading
+pub fn read_from(
+    octets: &[u8],
+    from: usize,
+    specifier: u8,
+    table: &mut [u16],
+) -> Result<Reading, Refusal>
     ensures { (answer_in result ≡ told (reading_at octets.now from specifier (length table.old)))
         × (table.new ≡ table_after table.old
         (reading_at octets.now from specifier (length table.old))) }
 {
+    // of ones: zeros would be a call of `memset`; and first: behind a way out it would be cleared besides
+    let mut sheet = [1u16; TABLE];
     if table.len() < TABLE {
-        return Reading::Refused {
-            number: 1,
-            detail: 0,
-        };
+        return Err(Reason::Table.at(0));
     }
-    match component::head_from(octets, from) {
-        Head::Found(heading) => {
-            // of ones: zeros would be a call of `memset`
-            let mut sheet = [1u16; TABLE];
-            match parameters_from(octets, heading.set, &mut sheet) {
-                Count::Of(count) => {
-                    let kind = heading.kind;
-                    let at = heading.code;
-                    // an INVOKE's own code says its operation
-                    let operation = if kind == 0xE9 { octets[at] } else { specifier };
-                    let judged = judge_sheet(kind, operation, &sheet, count);
-                    finish(octets, heading, specifier, count, judged, &sheet, table)
-                }
-                Count::Refused { number, detail } => Reading::Refused { number, detail },
-            }
-        }
-        Head::Refused { number, detail } => Reading::Refused { number, detail },
-    }
+    let head = component::head_from(octets, from)?;
+    let count = parameters_from(octets, head.set, &mut sheet)?;
+    let operation = operation_of(octets, head, specifier);
+    let entries = Entries {
+        table: &sheet,
+        count,
+    };
+    let judged = judge_sheet(head.kind, operation, entries);
+    finish(octets, head, specifier, count, judged, &sheet, table)
 }
 
 // Reads a component that is all of the octets.
-pub fn read(component: &[u8], specifier: u8, table: &mut [u16]) -> Reading
+pub fn read(component: &[u8], specifier: u8, table: &mut [u16]) -> Result<Reading, Refusal>
     ensures { (answer_in result ≡ (reader component.now specifier table.old).answer)
         × (table.new ≡ (reader component.now specifier table.old).table) }
 {
@@ -246,66 +215,34 @@ pub fn read(component: &[u8], specifier: u8, table: &mut [u16]) -> Reading
 // ---- writer
 
 // What the row says of the entries. Where the table has no room for them it says nothing: `measure` refuses that.
-fn judge_table(kind: u8, specifier: u8, count: usize, table: &[u16]) -> Judged
+fn judge_table(kind: u8, specifier: u8, count: usize, table: &[u16]) -> Result<usize, RowFault>
     ensures { (judged_in result ≡ said kind specifier count table.now) × Pointing 64 result }
 {
-    if 64 < count {
-        return Judged::Fits(0);
+    if 64 < count || table.len() < WIDTH * count {
+        return Ok(0);
     }
-    if table.len() < WIDTH * count {
-        return Judged::Fits(0);
+    match Kind::try_from(kind) {
+        Ok(kind) => judge_operation(kind, specifier, Entries { table, count }),
+        Err(_) => Ok(0),
     }
-    judge_operation(kind, specifier, table, count)
 }
 
 // The writer's answer by it: an entry is the detail of 12, of 26 and of 14.
-fn row_answer(judged: Judged) -> Writing
+fn row_answer(judged: Result<usize, RowFault>) -> Result<usize, Refusal>
     requires { Pointing 64 judged }
     ensures { written_in result ≡ judged_in judged }
 {
     match judged {
-        Judged::Fits(named) => Writing::Accepted(named),
-        Judged::NoRow => Writing::Refused {
-            number: 11,
-            detail: 0,
-        },
-        Judged::Again(entry) => Writing::Refused {
-            number: 12,
-            detail: entry as u32,
-        },
-        Judged::WrongSize(entry) => Writing::Refused {
-            number: 26,
-            detail: entry as u32,
-        },
-        Judged::Missing(number) => Writing::Refused {
-            number: 13,
-            detail: number as u32,
-        },
-        Judged::Both(entry) => Writing::Refused {
-            number: 14,
-            detail: entry as u32,
-        },
+        Ok(named) => Ok(named),
+        Err(RowFault::NoRow) => Err(Reason::NoRow.at(0)),
+        Err(RowFault::Again(entry)) => Err(Reason::Again.at(entry as u32)),
+        Err(RowFault::WrongSize(entry)) => Err(Reason::WrongSize.at(entry as u32)),
+        Err(RowFault::Missing(number)) => Err(Reason::Missing.at(u32::from(number))),
+        Err(RowFault::Both(entry)) => Err(Reason::Both.at(entry as u32)),
     }
 }
 
-// The octets that a component takes: all of the writer's refusals but 17, which needs the output.
-pub fn weigh(kind: u8, id: Id, code: Code, count: usize, table: &[u16], source: &[u8]) -> Count
-    ensures { count_in result ≡ weighing kind id code count table.now source.now }
-{
-    match component::measure(kind, id, count, table, source) {
-        Measured::Octets {
-            whole,
-            body: _,
-            set: _,
-        } => match row_answer(judge_table(kind, code.first, count, table)) {
-            Writing::Accepted(_) => Count::Of(whole),
-            Writing::Refused { number, detail } => Count::Refused { number, detail },
-        },
-        Measured::Refused { number, detail } => Count::Refused { number, detail },
-    }
-}
-
-// What a component takes, and the same refusals.
+// What a component takes: all of the writer's refusals but 17, which needs the output.
 pub fn weigh_sizes(
     kind: u8,
     id: Id,
@@ -313,18 +250,27 @@ pub fn weigh_sizes(
     count: usize,
     table: &[u16],
     source: &[u8],
-) -> Measured
+) -> Result<Measured, Refusal>
     ensures { measure_in result ≡ weighing_sizes kind id code count table.now source.now }
 {
-    match component::measure(kind, id, count, table, source) {
-        Measured::Octets { whole, body, set } => {
-            match row_answer(judge_table(kind, code.first, count, table)) {
-                Writing::Accepted(_) => Measured::Octets { whole, body, set },
-                Writing::Refused { number, detail } => Measured::Refused { number, detail },
-            }
-        }
-        Measured::Refused { number, detail } => Measured::Refused { number, detail },
-    }
+    let sizes = component::measure(kind, id, count, table, source)?;
+    row_answer(judge_table(kind, code.first, count, table))?;
+    Ok(sizes)
+}
+
+// How many octets that are.
+pub fn weigh(
+    kind: u8,
+    id: Id,
+    code: Code,
+    count: usize,
+    table: &[u16],
+    source: &[u8],
+) -> Result<usize, Refusal>
+    ensures { count_in result ≡ weighing kind id code count table.now source.now }
+{
+    let sizes = weigh_sizes(kind, id, code, count, table, source)?;
+    Ok(sizes.whole)
 }
 
 // Writes a component from a table of entries and the octets that they point into. Only the octets that are counted
@@ -338,7 +284,7 @@ pub fn write(
     table: &[u16],
     source: &[u8],
     out: &mut [u8],
-) -> Writing
+) -> Result<usize, Refusal>
     ensures { (written_in result ≡
         (writer (order kind id code count table.now source.now) out.old).answer)
         × (out.new ≡
@@ -346,18 +292,11 @@ pub fn write(
         out.old).output) }
 {
     let judged = judge_table(kind, code.first, count, table);
-    if let Judged::Fits(_) = judged {
-        return match component::compose(kind, id, code, count, table, source, out) {
-            Count::Of(octets) => Writing::Accepted(octets),
-            Count::Refused { number, detail } => Writing::Refused { number, detail },
-        };
-    }
-    match component::measure(kind, id, count, table, source) {
-        Measured::Octets {
-            whole: _,
-            body: _,
-            set: _,
-        } => row_answer(judged),
-        Measured::Refused { number, detail } => Writing::Refused { number, detail },
+    match judged {
+        Ok(_) => component::compose(kind, id, code, count, table, source, out),
+        Err(_) => {
+            component::measure(kind, id, count, table, source)?;
+            row_answer(judged)
+        }
     }
 }

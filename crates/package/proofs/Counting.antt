@@ -39,13 +39,13 @@ module _ (s : Octets) (first : ℕ) where
         go (suc room) = rw (le-leb _ _ k) (ap (λ n. accepted n) (omega arith))
 
     module _ (k : at < length s) where
-      step : (room : ℕ) → length s ≤ room + at → {a : Answer Span} → contents s at (at + 1) (length s) ≡ a →
-          (r : ℕ) × (suc r ≡ room) × (components_from room s at ≡ (layout_fault a >>= λ x. components_from r s x.end >>= λ xs. accepted (span at x.end ∷ xs)))
+      step : (room : ℕ) → length s ≤ room + at → {a : Answer Span} → layout_fault (contents s at (at + 1) (length s)) ≡ a →
+          (r : ℕ) × (suc r ≡ room) × (components_from room s at ≡ (a >>= λ x. components_from r s x.end >>= λ xs. accepted (span at x.end ∷ xs)))
       unfolding components_from
       step zero e f = absurd (omega arith)
       step (suc r) e f = (r, refl, rw (lt-leb _ _ k, f))
 
-      pub goes_on : {x : Span} → at < x.end → contents s at (at + 1) (length s) ≡ accepted x → Counted x.end (count + 1)
+      pub goes_on : {x : Span} → at < x.end → layout_fault (contents s at (at + 1) (length s)) ≡ accepted x → Counted x.end (count + 1)
       goes_on {x} l e =
           let (r, p, f) = step h.room h.enough e in
           record { room = r; enough = omega (arith, p, h.enough); is = h.is ∙ ap (counting count) f ∙ go (components_from r s x.end) }
@@ -54,5 +54,5 @@ module _ (s : Octets) (first : ℕ) where
           go (accepted xs) = ap (λ n. accepted n) (omega arith)
           go (refused n d) = refl
 
-      pub stops : {n d : ℕ} → contents s at (at + 1) (length s) ≡ refused n d → counted s first ≡ refused 22 d
+      pub stops : {n d : ℕ} → layout_fault (contents s at (at + 1) (length s)) ≡ refused n d → counted s first ≡ refused n d
       stops e = let (r, p, f) = step h.room h.enough e in h.is ∙ ap (counting count) f

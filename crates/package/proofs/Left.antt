@@ -4,11 +4,13 @@ use mathlib.Core.Path.{◌≡◌, refl, sym, ap, ap₂, ◌∙◌}
 use mathlib.Core.Bool.{Bool, true, false}
 use mathlib.Core.List.{List, [], ◌∷◌}
 use lib.ListN.{length, get_or, take}
-use lib.Dec.{eqb}
 use lib.Seq.{length-take-le}
-use borrow.Author.Tests.{le-leb, lt-leb, eq-eqb, ne_eqb}
+use lib.Dec.{eqb}
+use borrow.Author.Tests.{le-leb, lt-leb}
 use native.Mathlib.Decide.{dec_le}
 use native.Mathlib.Omega.{arith}
+use Rattle.std.specs.Prelude.{Option, Some, None, ◌||◌}
+use Rattle.std.specs.Option.{is_some}
 use Rattle.element.specs.Octets.{Octets, AreOctets, if, between}
 use Rattle.element.specs.Answer.{Answer, accepted, refused, ◌>>=◌, ◌>>◌, check}
 use Rattle.component.specs.Layout.{Span, span, contents}
@@ -18,7 +20,8 @@ use Rattle.component.specs.Table.{table_size, code_of}
 use Rattle.component.proofs.Parts.{octets_between}
 use Rattle.operation.specs.Reading.{Shown, reading_from, reading_at}
 use Rattle.operation.specs.Told.{told_of, told}
-use Rattle.operation.specs.Packed.{packed_reading, unpacked_reading, octet_at, detail_in, told_in}
+use Rattle.operation.specs.Packed.{packed_reading, unpacked_reading, octet_at, told_in}
+use Rattle.operation.specs.Summaries.{Summarizes}
 use Rattle.operation.proofs.Again.{inner}
 use Rattle.operation.proofs.Packing.{reading_apart}
 use Rattle.operation.proofs.Inside.{asked_first, fits_from}
@@ -61,7 +64,7 @@ module _ (s : Octets) (o : AreOctets s) where
   leads_on (suc left) n h = let e : suc left - 1 ≡ left = omega arith in rw e (leads h)
 
 -- ---- what they say, where the first is at `at`
-module _ (packet : ℕ) (s : Octets) {at left : ℕ} (more : left ≡ 0 → ⊥) (some : 0 < at) (d : Led s at (left - 1)) (specifiers wrong : ℕ) where
+module _ (packet : ℕ) (s : Octets) {at left : ℕ} (more : left ≡ 0 → ⊥) (some : 0 < at) (d : Led s at (left - 1)) (specifiers : ℕ) (wrong : Option ℕ) where
   abbrev pub component : Answer Shown
   component = reading_from (take d.first.end s) at (specifiers % 256)
 
@@ -72,8 +75,8 @@ module _ (packet : ℕ) (s : Octets) {at left : ℕ} (more : left ≡ 0 → ⊥)
   placed y = record { place = at; shown = y }
 
   -- the place of the first that is not carried, this one included
-  abbrev pub wrongly : Shown → ℕ
-  wrongly y = if (eqb wrong 0) (if (carried y) 0 at) wrong
+  abbrev pub wrongly : Shown → Option ℕ
+  wrongly y = if (is_some wrong || carried y) wrong (Some at)
 
   walked : components_from left s at ≡ accepted (span at d.first.end ∷ d.rest.spans)
   unfolding components_from
@@ -100,18 +103,18 @@ module _ (packet : ℕ) (s : Octets) {at left : ℕ} (more : left ≡ 0 → ⊥)
   goes_on {y} f = opened ∙ rw (f, d.rest.walked) (each (read_each s d.rest.spans (specifiers / 256)))
     where
       -- of one that is not carried before, this one, and those behind
-      first_wrong : (t c : Bool) → eqb wrong 0 ≡ t → (r : Answer Unit) (ys : List Placed) →
-          (check t 24 wrong >> ((check c 24 at >> r) >> accepted (placed y ∷ ys))) ≡
-          ((check (eqb (if t (if c 0 at) wrong) 0) 24 (if t (if c 0 at) wrong) >> (r >> accepted ys)) >>= λ zs. accepted (placed y ∷ zs))
-      first_wrong true true e (accepted u) ys = refl
-      first_wrong true true e (refused n x) ys = refl
-      first_wrong true false e r ys = rw (ne_eqb at 0 (λ z. omega arith))
-      first_wrong false c e r ys = rw e
+      first_wrong : (wrong : Option ℕ) (c : Bool) (r : Answer Unit) (ys : List Placed) →
+          (closing wrong >> ((check c 24 at >> r) >> accepted (placed y ∷ ys))) ≡
+          ((closing (if (is_some wrong || c) wrong (Some at)) >> (r >> accepted ys)) >>= λ zs. accepted (placed y ∷ zs))
+      first_wrong None true (accepted u) ys = refl
+      first_wrong None true (refused n x) ys = refl
+      first_wrong None false r ys = refl
+      first_wrong (Some j) c r ys = refl
 
       each : (b : Answer (List Placed)) →
-          (b >>= λ ys. check (eqb wrong 0) 24 wrong >> ((check (carried y) 24 at >> carried_in packet ys (specifiers / 256)) >> accepted (placed y ∷ ys))) ≡
-          ((b >>= λ ys. check (eqb (wrongly y) 0) 24 (wrongly y) >> (carried_in packet ys (specifiers / 256) >> accepted ys)) >>= λ ys. accepted (placed y ∷ ys))
-      each (accepted ys) = first_wrong (eqb wrong 0) (carried y) refl (carried_in packet ys (specifiers / 256)) ys
+          (b >>= λ ys. closing wrong >> ((check (carried y) 24 at >> carried_in packet ys (specifiers / 256)) >> accepted (placed y ∷ ys))) ≡
+          ((b >>= λ ys. closing (wrongly y) >> (carried_in packet ys (specifiers / 256) >> accepted ys)) >>= λ ys. accepted (placed y ∷ ys))
+      each (accepted ys) = first_wrong wrong (carried y) (carried_in packet ys (specifiers / 256)) ys
       each (refused n x) = refl
 
 -- ---- what the summary of the first says, read up to its end
@@ -136,30 +139,40 @@ module _ (s : Octets) (o : AreOctets s) (short : length s ≤ 4096) {at left : �
   unfolding told
   few {y} f = (rw f at (fits_from (take d.first.end s) octets at given octet (omega (arith, size, d.held.behind, d.held.ordered)) (omega (arith, size, d.held.inside)))).2
 
-  module _ {summary : ℕ} (q : summary ≡ packed_reading (told (reading_at (between 0 end s) at given table_size))) where
-    apart : unpacked_reading summary ≡ told there
-    apart = rw (q, is) (reading_apart _ (fits_from (take d.first.end s) octets at given octet (omega (arith, size, d.held.behind, d.held.ordered)) (omega (arith, size, d.held.inside))))
+  -- what is told of a refusal is the refusal
+  pub refusing : {n d : ℕ} → refused n d ≡ told (reading_at (between 0 end s) at given table_size) → there ≡ refused n d
+  unfolding told
+  refusing {n} {d} q = go there (sym (ap told is) ∙ sym q)
+    where
+      go : (a : Answer Shown) → told a ≡ refused n d → a ≡ refused n d
+      go (accepted y) f = let z : ◌≡◌ {A = ℕ} 0 1 = cc in absurd (omega arith)
+      go (refused m c) f = let p : m ≡ n = cc in let r : c ≡ d = cc in ap₂ (λ a b. refused a b) p r
 
-    pub refusing : (summary % 256 ≡ 0 → ⊥) → there ≡ refused (summary % 256) (detail_in summary)
-    unfolding unpacked_reading octet_at told
-    refusing n = go there (sym (rw (ne_eqb (summary % 256) 0 n) at apart))
-      where
-        go : (a : Answer Shown) → told a ≡ refused (summary % 256) (detail_in summary) → a ≡ refused (summary % 256) (detail_in summary)
-        go (accepted y) f = let z : ◌≡◌ {A = ℕ} 0 1 = cc in absurd (omega arith)
-        go (refused m c) f = let p : m ≡ summary % 256 = cc in let r : c ≡ detail_in summary = cc in ap₂ (λ a b. refused a b) p r
+  pub accepting : {summary : ℕ} → Summarizes summary (told (reading_at (between 0 end s) at given table_size)) →
+      (y : Shown) × (there ≡ accepted y) × (told_of y ≡ told_in summary) × (summary ≡ packed_reading (accepted (told_of y)))
+  unfolding told unpacked_reading octet_at
+  accepting {summary} q = go there refl
+    where
+      apart : unpacked_reading summary ≡ told there
+      apart = rw (q.packed ∙ ap packed_reading (sym q.is), is) (reading_apart _ (fits_from (take d.first.end s) octets at given octet (omega (arith, size, d.held.behind, d.held.ordered)) (omega (arith, size, d.held.inside))))
 
-    pub accepting : summary % 256 ≡ 0 → (y : Shown) × (there ≡ accepted y) × (told_of y ≡ told_in summary) × (summary ≡ packed_reading (accepted (told_of y)))
-    unfolding unpacked_reading octet_at told
-    accepting z = go there refl (sym (rw (eq-eqb (summary % 256) 0 z) at apart))
-      where
-        go : (a : Answer Shown) → there ≡ a → told a ≡ accepted (told_in summary) → (y : Shown) × (there ≡ accepted y) × (told_of y ≡ told_in summary) × (summary ≡ packed_reading (accepted (told_of y)))
-        go (accepted y) f g = (y, f, cc, q ∙ ap (λ a. packed_reading (told a)) (is ∙ f))
-        go (refused m c) f g = let z : ◌≡◌ {A = ℕ} 0 1 = cc in absurd (omega arith)
+      same : told there ≡ accepted q.told
+      same = sym (ap told is) ∙ q.is
+
+      told_so : (b : Bool) → (eqb (octet_at summary 0) 0) ≡ b → unpacked_reading summary ≡ accepted q.told → q.told ≡ told_in summary
+      told_so true e f = sym (inner (rw e at f))
+      told_so false e f = let g = rw e at f in let z : ◌≡◌ {A = ℕ} 0 1 = cc in absurd (omega arith)
+
+      go : (a : Answer Shown) → there ≡ a → (y : Shown) × (there ≡ accepted y) × (told_of y ≡ told_in summary) × (summary ≡ packed_reading (accepted (told_of y)))
+      go (accepted y) f =
+          let e : told_of y ≡ q.told = inner (sym (ap told f) ∙ same) in
+          (y, f, e ∙ told_so (eqb (octet_at summary 0) 0) refl (apart ∙ same), q.packed ∙ ap (λ x. packed_reading (accepted x)) (sym e))
+      go (refused m c) f = let g = sym (ap told f) ∙ same in let z : ◌≡◌ {A = ℕ} 0 1 = cc in absurd (omega arith)
 
 -- ---- the first is accepted: what those behind it are asked
 module _ (packet : ℕ) (s : Octets) (o : AreOctets s) (short : length s ≤ 4096) {at left : ℕ} (more : left ≡ 0 → ⊥) (some : 0 < at)
-    (d : Led s at (left - 1)) (specifiers wrong : ℕ) where
-  pub record Continued (end now summary : ℕ) : Type 0 where
+    (d : Led s at (left - 1)) (specifiers : ℕ) (wrong : Option ℕ) where
+  pub record Continued (end : ℕ) (now : Option ℕ) (summary : ℕ) : Type 0 where
     pub shown : Shown
     pub told_so : told_of shown ≡ told_in summary
     pub packed : summary ≡ packed_reading (accepted (told_of shown))
@@ -168,14 +181,14 @@ module _ (packet : ℕ) (s : Octets) (o : AreOctets s) (short : length s ≤ 409
     pub is : leftover packet s at left specifiers wrong ≡
         (leftover packet s end (left - 1) (specifiers / 256) now >>= λ ys. accepted (record { place = at; shown = shown } ∷ ys))
 
-  pub continues : {end now summary : ℕ} → end ≡ d.first.end → summary ≡ packed_reading (told (reading_at (between 0 end s) at (specifiers % 256) table_size)) →
-      summary % 256 ≡ 0 → now ≡ if (eqb wrong 0) (if (carries packet (told_in summary).kind (told_in summary).code.first (specifiers % 256)) 0 at) wrong →
+  pub continues : {end : ℕ} {now : Option ℕ} {summary : ℕ} → end ≡ d.first.end → Summarizes summary (told (reading_at (between 0 end s) at (specifiers % 256) table_size)) →
+      now ≡ if (is_some wrong || carries packet (told_in summary).kind (told_in summary).code.first (specifiers % 256)) wrong (Some at) →
       Continued end now summary
   unfolding code_of
-  continues {end} {now} {summary} e q z w =
+  continues {end} {now} {summary} e q w =
       let octet : specifiers % 256 < 256 = omega arith in
-      let (y, f, g, p) = accepting s o short d (specifiers % 256) octet e q z in
-      let v : now ≡ wrongly packet s more some d specifiers wrong y = w ∙ ap (λ x. if (eqb wrong 0) (if (carries packet x.kind x.code.first (specifiers % 256)) 0 at) wrong) (sym g) in
+      let (y, f, g, p) = accepting s o short d (specifiers % 256) octet e q in
+      let v : now ≡ wrongly packet s more some d specifiers wrong y = w ∙ ap (λ x. if (is_some wrong || carries packet x.kind x.code.first (specifiers % 256)) wrong (Some at)) (sym g) in
       record {
         shown = y;
         told_so = g;
@@ -186,7 +199,7 @@ module _ (packet : ℕ) (s : Octets) (o : AreOctets s) (short : length s ≤ 409
       }
 
 -- ---- none is left
-pub none_left : (packet : ℕ) (s : Octets) (at specifiers wrong : ℕ) {r : Answer Unit} → r ≡ closing wrong → (t p n : List ℕ) →
+pub none_left : (packet : ℕ) (s : Octets) (at specifiers : ℕ) (wrong : Option ℕ) {r : Answer Unit} → r ≡ closing wrong → (t p n : List ℕ) →
     let l = leftover packet s at 0 specifiers wrong in (r ≡ done l) × (t ≡ tables_rest t l) × (p ≡ places_rest p l) × (n ≡ summaries_rest n l)
 unfolding leftover components_from read_each carried_in done tables_rest places_rest summaries_rest tables_with places_with summaries_with
 none_left packet s at specifiers wrong e t p n = rw e (go (closing wrong))

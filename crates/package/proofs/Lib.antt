@@ -7,8 +7,6 @@ pub mod Carrying
 pub mod Fronting
 pub mod Weighing
 pub mod Laying
-pub mod MeasuredWeighing
-pub mod MeasuredLaying
 pub mod Steps
 pub mod Standing
 pub mod Refused

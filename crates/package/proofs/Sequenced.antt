@@ -6,6 +6,7 @@ use mathlib.Core.List.{List, [], ◌∷◌}
 use lib.ListN.{length, get_or, take}
 use lib.Dec.{leb}
 use native.Mathlib.Omega.{arith}
+use Rattle.std.specs.Prelude.{None}
 use Rattle.element.specs.Octets.{Octets}
 use Rattle.element.specs.Answer.{Answer, accepted, refused, ◌>>=◌, ◌>>◌}
 use Rattle.component.specs.Layout.{Span, span, contents}
@@ -66,7 +67,7 @@ module _ (s : Octets) (specifiers : ℕ) (o : Opening) where
     unfolding sequence_reading
     miscounted h = let (xs, p, q) = walked in rw (p, q, h)
 
-    pub read_whole : few n ≡ true → sequence_reading s specifiers o ≡ (leftover (get_or s 0 0) s o.first n specifiers 0 >>= λ ys. accepted (packet ys))
+    pub read_whole : few n ≡ true → sequence_reading s specifiers o ≡ (leftover (get_or s 0 0) s o.first n specifiers None >>= λ ys. accepted (packet ys))
     unfolding sequence_reading leftover closing all_from
     read_whole h =
         let (xs, p, q) = walked in
@@ -83,13 +84,13 @@ module _ (s : Octets) (specifiers : ℕ) (o : Opening) where
         go (refused m d) = refl
 
     -- as many are answered as were counted
-    pub all_read : {ys : List Placed} → leftover (get_or s 0 0) s o.first n specifiers 0 ≡ accepted ys → length ys ≡ n
+    pub all_read : {ys : List Placed} → leftover (get_or s 0 0) s o.first n specifiers None ≡ accepted ys → length ys ≡ n
     unfolding leftover all_from
     all_read f =
         let (xs, p, q) = walked in
         let (zs, u, v) = taken (components_from n s o.first) f in
         let (ys, r, c) = taken (read_each s zs specifiers) v in
-        let (_, _, d) = taken (closing 0) c in
+        let (_, _, d) = taken (closing None) c in
         let (_, _, same) = taken (carried_in (get_or s 0 0) ys specifiers) d in
         let again = inner (sym (rw q at (no_more s (length s) o.first p)) ∙ u) in
         omega (arith, as_many s zs specifiers r, ap length (inner same), ap length again)

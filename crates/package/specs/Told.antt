@@ -1,12 +1,13 @@
 -- What each case of the package reader's answer says, and what stands beside it: for each component its place, and what
 -- is told of it as one number of eight octets.
-use Rattle.std.specs.Prelude.{ℕ, List, ◌++◌, map, length, drop}
+use Rattle.std.specs.Prelude.{ℕ, Result, List, ◌++◌, map, length, drop}
 use Rattle.element.specs.Answer.{Answer, accepted, refused, ◌>>=◌}
 use Rattle.component.specs.Layout.{size_of}
 use Rattle.operation.specs.Told.{told_of}
 use Rattle.operation.specs.Packed.{packed_reading, told_in}
+use Rattle.element.specs.declared.refusal.Refusal as F
+use Rattle.element.specs.Told.{told as told_by}
 use Rattle.package.specs.declared.Package as P
-use Rattle.package.specs.declared.Package.TheVariants as PV
 use Rattle.package.specs.Caller.{Inside, Parcel, Part}
 use Rattle.package.specs.Reading.{Placed, Packet}
 
@@ -37,10 +38,11 @@ outlined a = a >>= λ p. accepted (record {
   count = length p.components;
 })
 
-abbrev pub answer_in : P.Package → Answer Envelope
-answer_in (PV.Accepted kind ids size count) =
-    accepted (record { kind = kind; ids = ids; size = size; count = count })
-answer_in (PV.Refused n d) = refused n d
+abbrev pub package_said : P.Package → Envelope
+package_said p = record { kind = p.kind; ids = p.ids; size = p.size; count = p.count }
+
+abbrev pub answer_in : Result P.Package F.Refusal → Answer Envelope
+answer_in r = told_by package_said r
 
 -- each in front of a list, which a refusal leaves as it was
 unfoldable pub places_with : List Inside → List ℕ → List ℕ

@@ -1,3 +1,4 @@
 pub mod Opened
 pub mod Leftover
 pub mod Weighed
+pub mod Ordered

@@ -1,113 +1,121 @@
 // The layout of a package, from left to right: every fault of it is 22.
-ghost use Rattle.std.specs.Prelude.{◌≡◌, ◌≤◌, ◌<◌, length};
-ghost use Rattle.component.specs.Layout.{span};
-ghost use Rattle.component.specs.Told.{count_in};
+ghost use Rattle.std.specs.Prelude.{◌≡◌, ◌≤◌, ◌<◌, ◌+◌, length, IfOk};
+ghost use Rattle.component.specs.Layout.{contents, wanted};
+ghost use Rattle.component.specs.Told.{span_said, span_in, count_in};
 ghost use Rattle.package.specs.Types.{package_type, id_size};
-ghost use Rattle.package.specs.Layout.{sequence_at, ids_at, opening};
+ghost use Rattle.package.specs.Layout.{layout_fault, sequence_at, ids_at, opening};
 ghost use Rattle.package.specs.inner.Opened.{opening_in, counted};
 
 use super::Opening;
-use component::{Count, Span};
+use component::Span;
+use element::{Reason, Refusal};
 
 pub(crate) fn is_package(kind: u8) -> bool
     ensures { result ≡ package_type kind }
 {
-    if kind < 0xE1 {
-        return false;
-    }
-    kind <= 0xE6
+    matches!(kind, 0xE1..=0xE6)
 }
 
 // How many octets of transaction IDs a package of this type has.
 pub(crate) fn id_size(kind: u8) -> usize
     ensures { result ≡ id_size kind }
 {
-    if kind == 0xE1 {
-        return 0;
+    match kind {
+        0xE1 => 0,
+        0..=0xE4 => 4,
+        _ => 8,
     }
-    if kind < 0xE5 {
-        return 4;
+}
+
+// The element at `at`, whichever octet it begins with.
+fn element_at(octets: &[u8], at: usize) -> Result<Span, Refusal>
+    requires { (at < length octets.now) × (length octets.now ≤ 4096) }
+    ensures answer { span_in result ≡ layout_fault (contents octets.now at (at + 1) (length octets.now)) }
+    ensures inside { IfOk result (λ x. (at + 1 < x.start) × (x.start ≤ x.end) × (x.end ≤ length octets.now)) }
+{
+    match component::element_from(octets, at) {
+        Ok(found) => Ok(found),
+        Err(refusal) => Err(Reason::Layout.at(refusal.detail)),
     }
-    8
+}
+
+// The element of one identifier octet that is wanted at `at`.
+fn wanted_at(octets: &[u8], octet: u8, at: usize) -> Result<Span, Refusal>
+    requires { (at ≤ length octets.now) × (length octets.now ≤ 4096) }
+    ensures answer { span_in result ≡ layout_fault (wanted octets.now octet 22 at (length octets.now)) }
+    ensures inside { IfOk result (λ x. (at + 1 < x.start) × (x.start ≤ x.end) × (x.end ≤ length octets.now)) }
+{
+    match component::wanted_from(octets, octet, at) {
+        Ok(Some(found)) => Ok(found),
+        Ok(None) => Err(Reason::Layout.at(at as u32)),
+        Err(refusal) => Err(Reason::Layout.at(refusal.detail)),
+    }
 }
 
 // The component sequence that is wanted behind the transaction IDs, and has to end where the package ends.
-fn sequence_at(octets: &[u8], ids: usize, behind: usize, at: usize) -> Opening
-    requires { length octets.now ≤ 4096 }
-    ensures { opening_in result ≡ sequence_at octets.now (span ids behind) at }
+#[tactic(auto, unfolding(crate::specs::Layout::sequence_at))]
+fn sequence_at(octets: &[u8], ids: Span, at: usize) -> Result<Opening, Refusal>
+    requires { (at ≤ length octets.now) × (length octets.now ≤ 4096) }
+    ensures answer { opening_in result ≡ sequence_at octets.now (span_said ids) at }
+    ensures inside { IfOk result (λ o. (o.ids ≡ ids) × (o.sequence ≡ at) × (at < o.first)
+        × (o.first ≤ length octets.now)) }
 {
-    match component::wanted_from(octets, 0xE8, 22, at) {
-        Span::Found { start, end } => {
-            if end != octets.len() {
-                return Opening::Refused { detail: end as u32 };
-            }
-            Opening::Found {
-                ids,
-                behind,
-                sequence: at,
-                first: start,
-            }
-        }
-        Span::Refused { number: _, detail } => Opening::Refused { detail },
+    let sequence = wanted_at(octets, 0xE8, at)?;
+    if sequence.end != octets.len() {
+        return Err(Reason::Layout.at(sequence.end as u32));
     }
+    Ok(Opening {
+        ids,
+        sequence: at,
+        first: sequence.start,
+    })
 }
 
 // The transaction IDs that are wanted at `at`, and the component sequence behind them.
-fn ids_at(octets: &[u8], kind: u8, at: usize) -> Opening
+#[tactic(auto, unfolding(crate::specs::Layout::ids_at))]
+fn ids_at(octets: &[u8], kind: u8, at: usize) -> Result<Opening, Refusal>
     requires { (at ≤ length octets.now) × (length octets.now ≤ 4096) }
-    ensures { opening_in result ≡ ids_at octets.now kind at }
+    ensures answer { opening_in result ≡ ids_at octets.now kind at }
+    ensures inside { IfOk result (λ o. (o.ids.start ≤ o.ids.end) × (o.sequence < o.first)
+        × (o.first ≤ length octets.now)) }
 {
-    match component::wanted_from(octets, 0xC7, 22, at) {
-        Span::Found { start, end } => {
-            if end - start != id_size(kind) {
-                return Opening::Refused { detail: at as u32 };
-            }
-            sequence_at(octets, start, end, end)
-        }
-        Span::Refused { number: _, detail } => Opening::Refused { detail },
+    let ids = wanted_at(octets, 0xC7, at)?;
+    if ids.end - ids.start != id_size(kind) {
+        return Err(Reason::Layout.at(at as u32));
     }
+    sequence_at(octets, ids, ids.end)
 }
 
 // All that stands before the components.
-pub(crate) fn opening(octets: &[u8]) -> Opening
+#[tactic(auto, unfolding(crate::specs::Layout::opening))]
+pub(crate) fn opening(octets: &[u8]) -> Result<Opening, Refusal>
     requires { (0 < length octets.now) × (length octets.now ≤ 4096) }
-    ensures { opening_in result ≡ opening octets.now }
+    ensures answer { opening_in result ≡ opening octets.now }
+    ensures inside { IfOk result (λ o. (o.ids.start ≤ o.ids.end) × (o.sequence < o.first)
+        × (o.first ≤ length octets.now)) }
 {
     let kind = octets[0];
     if !is_package(kind) {
-        return Opening::Refused { detail: 0 };
+        return Err(Reason::Layout.at(0));
     }
-    match component::element_from(octets, 0) {
-        Span::Found { start, end } => {
-            if end != octets.len() {
-                return Opening::Refused { detail: end as u32 };
-            }
-            ids_at(octets, kind, start)
-        }
-        Span::Refused { number: _, detail } => Opening::Refused { detail },
+    let body = element_at(octets, 0)?;
+    if body.end != octets.len() {
+        return Err(Reason::Layout.at(body.end as u32));
     }
+    ids_at(octets, kind, body.start)
 }
 
 // How many components stand from `first` to the end of the octets, whatever they are.
-pub(crate) fn count_components(octets: &[u8], first: usize) -> Count
+pub(crate) fn count_components(octets: &[u8], first: usize) -> Result<usize, Refusal>
     requires { (first ≤ length octets.now) × (length octets.now ≤ 4096) }
     ensures { count_in result ≡ counted octets.now first }
 {
     let mut at = first;
     let mut count: usize = 0;
-    let answer = 'components: loop {
-        if octets.len() <= at {
-            break 'components Count::Of(count);
-        }
-        match component::element_from(octets, at) {
-            Span::Found { start: _, end } => {
-                at = end;
-                count = count + 1;
-            }
-            Span::Refused { number: _, detail } => {
-                break 'components Count::Refused { number: 22, detail };
-            }
-        }
-    };
-    answer
+    while at < octets.len() {
+        let component = element_at(octets, at)?;
+        at = component.end;
+        count += 1;
+    }
+    Ok(count)
 }

@@ -2,6 +2,7 @@
 #![tactic(auto)]
 
 use fields::Failure;
+use lines::Packages;
 use std::io::{Read, Write};
 use std::process::ExitCode;
 
@@ -9,7 +10,7 @@ fn run<R: Read, W: Write>(from: &mut R, to: &mut W) -> Result<(), Failure> {
     fields::write(to, b"item answer detail type components\n")?;
     let mut octets = [0u8; 4097];
     let mut table = [0u16; package::TABLES];
-    fields::list_packages(from, to, &mut octets, &mut table)?;
+    fields::list::<Packages, R, W>(from, to, &mut octets, &mut table)?;
     fields::close(to)
 }
 

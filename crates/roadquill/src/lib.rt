@@ -1,12 +1,13 @@
 // The readers and writers of components and of packages, and the names of errors, for C: numbers and slices alone.
 #![tactic(auto)]
 
-ghost use Rattle.std.specs.Prelude.{◌≡◌, map, length};
+ghost use Rattle.std.specs.Prelude.{◌≡◌, ◌<◌, map, length, IfOk};
 ghost use Rattle.element.specs.Output.{written, output_after};
 ghost use Rattle.errors.specs.Naming.{naming};
 ghost use Rattle.operation.specs.Caller.{order};
 ghost use Rattle.operation.specs.Model.{reader, writer};
 ghost use Rattle.operation.specs.Packed.{packed_reading, packed_writing};
+ghost use Rattle.operation.specs.Told.{written_in};
 ghost use Rattle.package.specs.Caller.{order as parcel};
 ghost use Rattle.package.specs.Reading.{reading_into, tables_after};
 ghost use Rattle.package.specs.Told.{told, outlined, answer_in, summaries_after, part_in};
@@ -15,9 +16,21 @@ ghost use Rattle.package.specs.Packed.{packed_package, PackageFits};
 ghost use Rattle.roadquill.specs.Id.{id_from, code_from};
 
 use component::{Code, Id};
-use errors::Named;
-use operation::Writing;
+use element::Refusal;
 use package::Package;
+
+// An answer of a writer: octet 0 is the answer, 0 where it is accepted. Octets 1 to 4 are then the count of octets, else
+// the detail.
+#[tactic(auto, unfolding(operation::specs::Packed::packed_writing))]
+fn packed_writing(answer: Result<usize, Refusal>) -> u64
+    requires { IfOk answer (λ octets. octets < 4294967296) }
+    ensures { result ≡ packed_writing (written_in answer) }
+{
+    match answer {
+        Ok(octets) => operation::packed(0, octets as u32),
+        Err(refusal) => operation::packed(refusal.reason.number(), refusal.detail),
+    }
+}
 
 // Reads a component. Octet 0 of the result is the answer, 0 where it is accepted. Then octet 1 is the type, 2 and 3 are
 // the ID octets, 4 and 5 the code, each 0 where absent; 6 and 7 are 16,384 times the count of ID octets, and 128 times
@@ -62,30 +75,22 @@ pub extern "C" fn roadquill_write(
         first: code,
         second: problem,
     };
-    match operation::write(kind, id, codes, entries, table, source, output) {
-        Writing::Accepted(octets) => operation::packed(0, octets as u32),
-        Writing::Refused { number, detail } => operation::packed(number, detail),
-    }
+    packed_writing(operation::write(kind, id, codes, entries, table, source, output))
 }
 
 // An answer of the package reader: octet 0 is the answer, 0 where it is accepted. Then octet 1 is the type, 2 the count
 // of transaction ID octets, 3 and 4 their place, least significant first, and 5 the count of components. Else octets 1
 // to 4 are the detail.
-fn packed_package(answer: Package) -> u64
+fn packed_package(answer: Result<Package, Refusal>) -> u64
     requires { PackageFits (answer_in answer) }
     ensures { result ≡ packed_package (answer_in answer) }
 {
     match answer {
-        Package::Accepted {
-            kind,
-            ids,
-            size,
-            count,
-        } => {
-            let places = ids as u64 + 65536 * (count as u64);
-            256 * (kind as u64 + 256 * (size as u64 + 256 * places))
+        Ok(told) => {
+            let places = told.ids as u64 + 65536 * (told.count as u64);
+            256 * (u64::from(told.kind) + 256 * (told.size as u64 + 256 * places))
         }
-        Package::Refused { number, detail } => operation::packed(number, detail),
+        Err(refusal) => operation::packed(refusal.reason.number(), refusal.detail),
     }
 }
 
@@ -129,10 +134,7 @@ pub extern "C" fn roadquill_write_package(
         × (output.new ≡ (PM.writer (parcel kind ids.now (map part_in components.now)
         specifiers table.now source.now) output.old).output) }
 {
-    match package::write(kind, ids, components, specifiers, table, source, output) {
-        Writing::Accepted(octets) => operation::packed(0, octets as u32),
-        Writing::Refused { number, detail } => operation::packed(number, detail),
-    }
+    packed_writing(package::write(kind, ids, components, specifiers, table, source, output))
 }
 
 // Puts the name of an error code at the start of a lent buffer; a code that Table 6 reserves has a name of no octets.
@@ -143,8 +145,5 @@ pub extern "C" fn roadquill_error_name(code: u8, name: &mut [u8]) -> u64
     ensures { (result ≡ packed_writing (written (naming code (length name.old))))
         × (name.new ≡ output_after name.old (naming code (length name.old))) }
 {
-    match errors::put_name(code, name) {
-        Named::Octets(octets) => operation::packed(0, octets as u32),
-        Named::Short(octets) => operation::packed(17, octets as u32),
-    }
+    packed_writing(errors::put_name(code, name))
 }

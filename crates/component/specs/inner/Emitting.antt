@@ -1,5 +1,5 @@
 -- What the private functions of the composing part say: the octets that each puts down, and those that each counts.
-use Rattle.std.specs.Prelude.{ℕ, ◌+◌, ◌*◌, ◌-◌, ◌<◌, ◌≤◌, ◌≡◌, Bool, true, ◌&&◌, List, [], ◌∷◌, ◌++◌, length}
+use Rattle.std.specs.Prelude.{ℕ, Option, Some, None, Result, Ok, Err, ◌+◌, ◌*◌, ◌-◌, ◌<◌, ◌≤◌, ◌≡◌, Bool, true, ◌&&◌, List, [], ◌∷◌, ◌++◌, length}
 use Rattle.std.specs.Prelude.{take, drop, leb}
 use Rattle.element.specs.Octets.{Octets, if}
 use Rattle.element.specs.Answer.{Answer, accepted, ◌>>=◌, ◌>>◌, check}
@@ -8,8 +8,7 @@ use Rattle.element.specs.Length.{shortest}
 use Rattle.element.specs.Identifier.{identifier, identifier_size}
 use Rattle.component.specs.declared.Id as D
 use Rattle.component.specs.declared.Code as E
-use Rattle.component.specs.declared.Count as C
-use Rattle.component.specs.declared.Count.TheVariants as CV
+use Rattle.element.specs.declared.refusal.Refusal as F
 use Rattle.component.specs.Types.{coding_of}
 use Rattle.component.specs.Grammar.{Parameter}
 use Rattle.component.specs.Composed.{element, code_element}
@@ -47,9 +46,16 @@ measured_of kind id set = do
   check (leb (element_size 1 (body_size kind id set)) 4096) 15 (element_size 1 (body_size kind id set))
   accepted (record { whole = element_size 1 (body_size kind id set); body = body_size kind id set; set = set })
 
-abbrev pub at_most : ℕ → C.Count → Type 0
-at_most n (CV.Of m) = m ≤ n
-at_most n (CV.Refused number detail) = Unit {0}
+abbrev pub at_most : ℕ → Result ℕ F.Refusal → Type 0
+at_most n (Ok m) = m ≤ n
+at_most n (Err r) = Unit {0}
+
+-- the octets of an entry's parameter, and how many they are where the entry stands
+abbrev pub octets_at : (source : Octets) → Entry → Octets
+octets_at source e = element (identifier e.number e.form) (take e.size (drop e.start source))
+
+abbrev pub size_in : (source : Octets) → Entry → Option ℕ
+size_in source e = if (entry_stands source e) (Some (element_size (identifier_size e.number) e.size)) None
 
 -- ---- a component that was measured before: what is put down where its parameters are taken to have `set` octets
 -- whether an entry stands, and its parameter finds room

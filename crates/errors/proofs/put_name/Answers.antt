@@ -2,21 +2,21 @@
 use native.Mathlib.Omega.{arith}
 use borrow.Author.Rules.{rules}
 use Rattle.errors.specs.Table6.{table6, octets_of, names_in, names}
-use Rattle.errors.specs.Naming.{named_in}
 use Rattle.errors.proofs.Putting.{inside, whole, cramped}
 use Rattle.errors.proofs.put_name.Goals as goal
 
+pub overflow_cast-size : goal.overflow_cast-size
+overflow_cast-size c = omega (arith, inside (search rules) c.name-start.ensures)
+
 pub returns-then-out-size : goal.returns-then-out-size
-unfolding named_in
-returns-then-out-size c = cramped (search rules) c.name-part.ensures _ c.if-out-size.true
+returns-then-out-size c = rw c.at.ensures (cramped (search rules) c.name-start.ensures _ c.if-out-size.true)
 
 pub overflow_add-end : goal.overflow_add-end
-overflow_add-end c = record { fits = omega (arith, inside (search rules) c.name-part.ensures) }
+overflow_add-end c = omega (arith, inside (search rules) c.name-start.ensures)
 
-pub slice_bounds-put-end : goal.slice_bounds-put-end
-slice_bounds-put-end c = omega (arith, inside (search rules) c.name-part.ensures)
+pub slice_bounds-copy_from_slice-end-3 : goal.slice_bounds-copy_from_slice-end-3
+slice_bounds-copy_from_slice-end-3 c = omega (arith, inside (search rules) c.name-start.ensures)
 
 pub returns : goal.returns
-unfolding named_in table6 octets_of names_in names
-returns c =
-    whole (search rules) c.name-part.ensures _ c.if-out-size.false c.put.ensures
+unfolding table6 octets_of names_in names
+returns c = whole (search rules) c.name-start.ensures _ c.if-out-size.false c.copy_from_slice.ensures.after

@@ -1,25 +1,38 @@
 -- `lines::list_field` meets its contract.
-use Rattle.std.proofs.Common.{sym, ap, ◌∙◌, arith}
-use Rattle.lines.proofs.Stepping.{line_short, cramped, skipped, item, never}
-use Rattle.lines.specs.Line.{line_of}
-use Rattle.lines.specs.Listing.{components}
+use Rattle.std.proofs.Common.{sym, ◌∙◌, arith}
+use Rattle.lines.proofs.Stepping.{cramped, skipped, item, never}
 use Rattle.lines.proofs.list_field.Goals as goal
 
-pub returns-then-text-at : goal.returns-then-text-at
-returns-then-text-at c = cramped components _ _ _ _ _ (omega arith)
+pub returns-then-not-has_room : goal.returns-then-not-has_room
+returns-then-not-has_room g c =
+    let laws = g.met.S.Subject in
+    let said =
+    cramped g.S.Subject.subject c.args.kept _ _ _ _ (c.LONGEST.ensures ∙ laws.longest_is) c.has_room.ensures
+    c.if-not-has_room.true in
+    record { answer = said.0; table = said.1; text = said.2; within = tt }
 
-pub returns-then-text-at-lt-LONGEST : goal.returns-then-text-at-lt-LONGEST
-returns-then-text-at-lt-LONGEST c = cramped components _ _ _ _ _ (omega arith)
+pub returns-then-tag-TAG : goal.returns-then-tag-TAG
+returns-then-tag-TAG g c =
+    let laws = g.met.S.Subject in
+    let said =
+    skipped g.S.Subject.subject c.args.kept _ _ _ _ (c.LONGEST.ensures ∙ laws.longest_is) c.has_room.ensures
+    c.if-not-has_room.false (c.TAG.ensures ∙ laws.tag_is) c.after-behind.ensures (c.TAG-2.ensures ∙ laws.tag_is)
+    c.if-tag-TAG.true in
+    record { answer = said.0.0; table = said.0.1; text = said.0.2; within = said.1 }
 
-pub returns-then-tag-ne1 : goal.returns-then-tag-ne1
-returns-then-tag-ne1 c = skipped components _ _ _ _ _ (omega arith) c.if-tag-ne1.true c.after-behind.ensures
+pub returns-in_err-next : goal.returns-in_err-next
+returns-in_err-next g c =
+    let laws = g.met.S.Subject in
+    absurd (never g.S.Subject.subject c.args.kept _ _ _ _ (c.LONGEST.ensures ∙ laws.longest_is) c.has_room.ensures
+    c.if-not-has_room.false (c.TAG.ensures ∙ laws.tag_is) c.after-behind.ensures (c.TAG-2.ensures ∙ laws.tag_is)
+    c.if-tag-TAG.false c.write_item.ensures.short (sym c.in_err-next.was ∙ c.write_item.ensures.lines))
 
-pub returns-in-Written : goal.returns-in-Written
-returns-in-Written c =
-    item components _ _ _ _ _ (omega arith) (omega arith) c.after-behind.ensures (ap (line_of _) c.read-reading.ensures.0) (line_short _ _)
-    (sym c.in-Written.is ∙ c.write_line.ensures.0) c.read-reading.ensures.1 c.write_line.ensures.1
-
-pub returns-in-NoRoom : goal.returns-in-NoRoom
-returns-in-NoRoom c =
-    never components _ _ _ _ _ (omega arith) (omega arith) c.after-behind.ensures (ap (line_of _) c.read-reading.ensures.0) (line_short _ _)
-    (sym c.in-NoRoom.is ∙ c.write_line.ensures.0)
+pub returns : goal.returns
+returns g c =
+    let laws = g.met.S.Subject in
+    let said =
+    item g.S.Subject.subject c.args.kept _ _ _ _ (c.LONGEST.ensures ∙ laws.longest_is) c.has_room.ensures
+    c.if-not-has_room.false (c.TAG.ensures ∙ laws.tag_is) c.after-behind.ensures (c.TAG-2.ensures ∙ laws.tag_is)
+    c.if-tag-TAG.false c.write_item.ensures.short (sym c.in_ok-next.was ∙ c.write_item.ensures.lines) c.write_item.ensures.table
+    c.write_item.ensures.out in
+    record { answer = said.0.0; table = said.0.1; text = said.0.2; within = omega (arith, said.1, c.write_item.auto.out) }

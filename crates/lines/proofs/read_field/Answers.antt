@@ -1,12 +1,12 @@
 -- `lines::read_field` meets its contract.
-use Rattle.std.proofs.Common.{le-ltb, lt-ltb}
+use Rattle.std.proofs.Common.{rules, le-ltb}
 use Rattle.lines.specs.Header.{field_at}
 use Rattle.lines.proofs.read_field.Goals as goal
 
-pub returns-then-header-lt3 : goal.returns-then-header-lt3
+pub returns-in_default : goal.returns-in_default
 unfolding field_at
-returns-then-header-lt3 c = simp (lt-ltb _ _ c.if-header-lt3.true)
+returns-in_default c = search rules
 
-pub returns : goal.returns
+pub returns-in-len3-up : goal.returns-in-len3-up
 unfolding field_at
-returns c = simp (le-ltb _ _ c.if-header-lt3.false, c.wide-high.ensures.0, c.wide-low.ensures.0)
+returns-in-len3-up c = simp (le-ltb _ _ c.in-len3-up.len_at_least, c.from.ensures, c.from_be_bytes.ensures)

@@ -1,10 +1,14 @@
 -- What the package reader hands back by value, as what it tells.
-use Rattle.std.specs.Prelude.{ℕ, zero, suc, List, [], ◌∷◌, drop, slice_index}
+use Rattle.std.specs.Prelude.{ℕ, zero, suc, List, [], ◌∷◌, ◌++◌, drop, slice_index}
+use Rattle.element.specs.Octets.{Octets}
 use Rattle.element.specs.Answer.{Answer, accepted, refused, ◌>>=◌}
 use Rattle.operation.specs.Packed.{told_in}
+use Rattle.package.specs.declared.Package as P
 use Rattle.package.specs.declared.Packages as S
 use Rattle.package.specs.Caller.{Inside, Parcel}
 use Rattle.package.specs.Told.{Envelope, answer_in}
+use Rattle.lines.specs.Line.{row}
+use Rattle.lines.specs.Packages.{inside_lines}
 
 -- how many components there are
 abbrev pub count_in : Answer Envelope → ℕ
@@ -22,6 +26,11 @@ insides (suc n) ps ss = inside_in (slice_index ps 0) (slice_index ss 0) ∷ insi
 abbrev pub parcel_of : Envelope → (places summaries : List ℕ) → Parcel
 parcel_of x ps ss =
     record { kind = x.kind; ids = x.ids; size = x.size; components = insides x.count ps ss }
+
+-- the line of a package, and behind it those of its components
+abbrev pub accepted_lines : (item : ℕ) → P.Package → (places summaries : List ℕ) → Octets
+accepted_lines item p places summaries =
+    row item 0 0 p.kind p.count ++ inside_lines (insides p.count places summaries)
 
 unfoldable pub parcel_in : S.Packages → Answer Parcel
 parcel_in r = answer_in r.answer >>= λ x. accepted (parcel_of x r.places r.components)

@@ -1,26 +1,18 @@
--- `operation::weigh_sizes` meets its contract: what `measure` refuses, then what the row says, then the octets that were measured.
-use mathlib.Core.Path.{sym, ap, ◌∙◌}
-use Rattle.component.specs.Told.{measure_in}
-use Rattle.operation.specs.Told.{written_in}
-use Rattle.operation.specs.Writing.{weighing_sizes}
+-- `operation::weigh_sizes` meets its contract: what `measure` refuses, then what the row says, then what was measured.
+use mathlib.Core.Path.{◌∙◌}
+use Rattle.std.proofs.lemmas.Result.{err_from_is_err_and}
 use Rattle.operation.proofs.Writer.{weighs, weight_refused, no_weight}
 use Rattle.operation.proofs.weigh_sizes.Goals as goal
 
-pub row_answer-requires : goal.row_answer-requires
-row_answer-requires c = c.judge_table.ensures.1
+pub returns-in_err-sizes : goal.returns-in_err-sizes
+returns-in_err-sizes c =
+    let p = err_from_is_err_and c.from_residual.result c.from_residual.ensures.1 in
+    rw (p.1, p.2) (no_weight _ _ c.args.code _ _ _ c.in_err-sizes.ensures)
 
-pub returns-in-Accepted : goal.returns-in-Accepted
-unfolding weighing_sizes
-returns-in-Accepted c =
-    weighs _ _ c.args.code _ _ _ (λ z. z) (sym (ap measure_in c.in-Octets.is) ∙ c.measure.ensures)
-    (sym (ap written_in c.in-Accepted.is) ∙ c.row_answer.ensures ∙ c.judge_table.ensures.0)
+pub returns-in_err-row_answer : goal.returns-in_err-row_answer
+returns-in_err-row_answer c =
+    let p = err_from_is_err_and c.from_residual-in_err-row_answer.result c.from_residual-in_err-row_answer.ensures.1 in
+    rw (p.1, p.2) (weight_refused _ _ c.args.code _ _ _ c.in_ok-sizes.ensures (c.in_err-row_answer.ensures ∙ c.judge_table.ensures.0))
 
-pub returns-in-Refused-row_answer : goal.returns-in-Refused-row_answer
-unfolding weighing_sizes
-returns-in-Refused-row_answer c =
-    weight_refused _ _ c.args.code _ _ _ (λ z. z) (sym (ap measure_in c.in-Octets.is) ∙ c.measure.ensures)
-    (sym (ap written_in c.in-Refused-row_answer.is) ∙ c.row_answer.ensures ∙ c.judge_table.ensures.0)
-
-pub returns-in-Refused : goal.returns-in-Refused
-unfolding weighing_sizes
-returns-in-Refused c = no_weight _ _ c.args.code _ _ _ (λ z. z) (sym (ap measure_in c.in-Refused.is) ∙ c.measure.ensures)
+pub returns : goal.returns
+returns c = weighs _ _ c.args.code _ _ _ c.in_ok-sizes.ensures (c.in_ok-row_answer.ensures ∙ c.judge_table.ensures.0)

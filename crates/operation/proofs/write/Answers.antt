@@ -1,27 +1,19 @@
 -- `operation::write` meets its contract: where the row accepts, what `compose` makes; else what `measure` refuses, and then what the row says.
-use mathlib.Core.Path.{sym, ap, ◌∙◌}
-use Rattle.component.specs.Told.{count_in, measure_in}
+use mathlib.Core.Path.{ap, ◌∙◌}
+use Rattle.std.proofs.lemmas.Result.{err_from_is_err_and}
 use Rattle.operation.specs.inner.Coded.{judged_in}
 use Rattle.operation.proofs.Writer.{composes, row_answers, measure_refuses}
 use Rattle.operation.proofs.write.Goals as goal
 
-pub returns-in-Of : goal.returns-in-Of
-returns-in-Of c =
-    let p = c.compose.ensures in
-    composes _ _ _ _ _ _ _ (sym (ap judged_in c.in-Fits.is) ∙ c.judge_table-judged.ensures.0) (sym (ap count_in c.in-Of.is) ∙ p.0, p.1)
+pub returns-in-Ok : goal.returns-in-Ok
+returns-in-Ok c = composes _ _ _ _ _ _ _ c.in-Ok.ensures.0 c.compose.ensures
 
-pub returns-in-Refused : goal.returns-in-Refused
-returns-in-Refused c =
-    let p = c.compose.ensures in
-    composes _ _ _ _ _ _ _ (sym (ap judged_in c.in-Fits.is) ∙ c.judge_table-judged.ensures.0) (sym (ap count_in c.in-Refused.is) ∙ p.0, p.1)
+pub returns-in_err-measure-in-Err : goal.returns-in_err-measure-in-Err
+returns-in_err-measure-in-Err c =
+    let p = err_from_is_err_and c.from_residual.result c.from_residual.ensures.1 in
+    rw (p.1, p.2) (measure_refuses _ _ _ _ _ _ _ c.in_err-measure-in-Err.ensures)
 
-pub row_answer-requires : goal.row_answer-requires
-row_answer-requires c = c.judge_table-judged.ensures.1
-
-pub returns-in-Octets : goal.returns-in-Octets
-returns-in-Octets c =
-    let p = row_answers _ _ _ _ _ _ _ (sym (ap measure_in c.in-Octets.is) ∙ c.measure.ensures) c.judge_table-judged.result c.in_default.not-Fits c.judge_table-judged.ensures.0 in
-    (c.row_answer.ensures ∙ p.0, p.1)
-
-pub returns-in-Refused-measure : goal.returns-in-Refused-measure
-returns-in-Refused-measure c = measure_refuses _ _ _ _ _ _ _ (sym (ap measure_in c.in-Refused-measure.is) ∙ c.measure.ensures)
+pub returns-in_ok-measure-in-Err : goal.returns-in_ok-measure-in-Err
+returns-in_ok-measure-in-Err c =
+    let p = row_answers _ _ _ _ _ _ _ c.in_ok-measure-in-Err.ensures c.in-Err.field-0 c.in-Err.ensures.0 in
+    (c.row_answer.ensures ∙ ap judged_in c.in-Err.is ∙ p.0, p.1)

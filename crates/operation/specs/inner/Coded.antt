@@ -1,13 +1,13 @@
 -- How the code holds a row and a run of parameters: the keys that a row names as a set, those that must occur as a
 -- list, the parameters as a table of entries.
 use Rattle.std.specs.Prelude.{ℕ, zero, suc, ◌+◌, ◌*◌, ◌/◌, ◌%◌, ◌^◌, ◌<◌, ◌≡◌, Bool, true, false, ◌&&◌, ◌||◌}
-use Rattle.std.specs.Prelude.{not, List, [], ◌∷◌, ◌++◌, length, get_or, leb, eqb, ltb}
+use Rattle.std.specs.Prelude.{not, List, [], ◌∷◌, ◌++◌, length, get_or, leb, eqb, ltb, Result, Ok, Err}
 use Rattle.element.specs.Octets.{if}
 use Rattle.element.specs.Answer.{Answer, accepted, ◌>>=◌, ◌>>◌, refused}
 use Rattle.component.specs.Table.{width, held}
 use Rattle.operation.specs.Judge.{judge, count_named}
-use Rattle.operation.specs.declared.Judged as J
-use Rattle.operation.specs.declared.Judged.TheVariants as JV
+use Rattle.operation.specs.declared.engine.RowFault as F
+use Rattle.operation.specs.declared.engine.RowFault.TheVariants as FV
 use Rattle.operation.specs.Row.{Row, must, one_of, any_of, may, Item, key, members, among, named, group_last, allows}
 use Rattle.operation.specs.Rows.{sizes}
 use Rattle.operation.specs.Finding.{row_of}
@@ -117,14 +117,23 @@ abbrev pub NoneOf : ℕ → List ℕ → Type 0
 NoneOf n [] = Unit
 NoneOf n (k ∷ ks) = NoneOf n ks × (n ≡ k → ⊥)
 
--- what each case of the engine's answer says
-abbrev pub judged_in : J.Judged → Answer ℕ
-judged_in (JV.Fits named) = accepted named
-judged_in JV.NoRow = refused 11 0
-judged_in (JV.Again entry) = refused 12 entry
-judged_in (JV.WrongSize entry) = refused 26 entry
-judged_in (JV.Missing number) = refused 13 number
-judged_in (JV.Both entry) = refused 14 entry
+-- what each fault says
+abbrev pub fault_in : F.RowFault → Answer ℕ
+fault_in FV.NoRow = refused 11 0
+fault_in (FV.Again entry) = refused 12 entry
+fault_in (FV.WrongSize entry) = refused 26 entry
+fault_in (FV.Missing number) = refused 13 number
+fault_in (FV.Both entry) = refused 14 entry
+
+-- what the engine's answer says
+abbrev pub judged_in : Result ℕ F.RowFault → Answer ℕ
+judged_in (Ok named) = accepted named
+judged_in (Err fault) = fault_in fault
+
+-- what the engine's answer must be, at any row that asks for what the lists hold and names what the set does
+pub record Judges (r : Result ℕ F.RowFault) (list group : List ℕ) (one other : ℕ) (names : List ℕ) (xs : List Item)
+    : Type 0 where
+  pub judged : (row : Row) → Asks row list group one other → Names row names → judged_in r ≡ judgement row xs
 
 -- what the row says of the entries of a table, where the table has room for them
 unfoldable pub said : (kind specifier count : ℕ) (table : List ℕ) → Answer ℕ

@@ -1,15 +1,15 @@
 -- The work sheet of a reading: what the walk over the parameters leaves in it, and what is copied from it.
-use Rattle.std.specs.Prelude.{ℕ, ◌*◌, ◌≡◌, ◌&&◌, List, ◌++◌, length, take, drop, leb}
+use Rattle.std.specs.Prelude.{ℕ, Result, Ok, Err, ◌*◌, ◌≡◌, ◌&&◌, List, ◌++◌, length, take, drop, leb}
 use Rattle.element.specs.Octets.{if}
 use Rattle.element.specs.Answer.{Answer, accepted, refused}
-use Rattle.component.specs.declared.Count as C
-use Rattle.component.specs.declared.Count.TheVariants as CV
+use Rattle.element.specs.declared.refusal.Refusal as F
+use Rattle.element.specs.Told.{number_of}
 use Rattle.component.specs.Table.{Entry, width, table_with}
 
 -- all parameters stand in the sheet, or the walk stopped at the first fault, after which nobody looks at the sheet
-abbrev pub Walked : Answer (List Entry) → C.Count → (sheet after : List ℕ) → Type 0
-Walked a (CV.Of n) t u = (es : List Entry) × (a ≡ accepted es) × (n ≡ length es) × (u ≡ table_with es t)
-Walked a (CV.Refused n d) t u = a ≡ refused n d
+abbrev pub Walked : Answer (List Entry) → Result ℕ F.Refusal → (sheet after : List ℕ) → Type 0
+Walked a (Ok n) t u = (es : List Entry) × (a ≡ accepted es) × (n ≡ length es) × (u ≡ table_with es t)
+Walked a (Err r) t u = a ≡ refused (number_of r.reason) r.detail
 
 -- the first `count` numbers of the one in place of the other's
 abbrev pub copied : (from to : List ℕ) (count : ℕ) → List ℕ

@@ -1,17 +1,16 @@
 -- What is answered of the components that are left of a package.
-use Rattle.std.specs.Prelude.{ℕ, ◌+◌, ◌<◌, ◌≡◌, List, map, length, eqb}
+use Rattle.std.specs.Prelude.{ℕ, Result, ◌+◌, ◌<◌, ◌≡◌, List, map, length, Option, Some, None}
 use Rattle.element.specs.Octets.{Octets}
-use Rattle.element.specs.Answer.{Answer, accepted, refused, ◌>>=◌, ◌>>◌, check}
+use Rattle.element.specs.Answer.{Answer, accepted, refused, ◌>>=◌, ◌>>◌}
 use Rattle.component.specs.Layout.{Span, contents}
-use Rattle.package.specs.declared.Rest as R
-use Rattle.package.specs.declared.Rest.TheVariants as RV
+use Rattle.element.specs.declared.refusal.Refusal as F
+use Rattle.element.specs.Told.{told}
 use Rattle.package.specs.Layout.{components_from}
 use Rattle.package.specs.Reading.{Placed, read_each, carried_in, tables_with}
 use Rattle.package.specs.Told.{inside, places_with, summaries_with}
 
-abbrev pub rest_in : R.Rest → Answer Unit
-rest_in RV.Accepted = accepted tt
-rest_in (RV.Refused n d) = refused n d
+abbrev pub rest_in : Result (Unit {0}) F.Refusal → Answer Unit
+rest_in r = told (λ u. u) r
 
 -- `left` components stand from `at` on, which is not the package's start
 pub record Stand (s : Octets) (at left : ℕ) : Type 0 where
@@ -25,11 +24,12 @@ abbrev pub EndsAt : Octets → (at end : ℕ) → Type 0
 EndsAt s at end = (x : Span) → contents s at (at + 1) (length s) ≡ accepted x → end ≡ x.end
 
 -- 24 where a component was not carried
-unfoldable pub closing : (wrong : ℕ) → Answer Unit
-closing wrong = check (eqb wrong 0) 24 wrong
+unfoldable pub closing : (wrong : Option ℕ) → Answer Unit
+closing None = accepted tt
+closing (Some at) = refused 24 at
 
--- the components from `at` on, where `wrong` is the place of one before them that the package does not carry, or 0
-unfoldable pub leftover : (packet : ℕ) → Octets → (at left specifiers wrong : ℕ) → Answer (List Placed)
+-- the components from `at` on, where `wrong` is the place of the first before them that the package does not carry
+unfoldable pub leftover : (packet : ℕ) → Octets → (at left specifiers : ℕ) (wrong : Option ℕ) → Answer (List Placed)
 leftover packet s at left specifiers wrong = do
   xs ← components_from left s at
   ys ← read_each s xs specifiers

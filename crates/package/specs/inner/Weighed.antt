@@ -1,17 +1,18 @@
 -- What the private functions of the writing part answer, and what they put down.
-use Rattle.std.specs.Prelude.{ℕ, zero, suc, ◌+◌, ◌*◌, ◌/◌, ◌%◌, ◌<◌, ◌≤◌, ◌≡◌, length, get_or, drop, leb}
+use Rattle.std.specs.Prelude.{ℕ, zero, suc, ◌+◌, ◌*◌, ◌/◌, ◌%◌, ◌<◌, ◌≤◌, ◌≡◌, length, get_or, drop}
+use Rattle.std.specs.Prelude.{Option, Result, Ok, Err}
 use mathlib.Core.List.{List, flatten}
 use Rattle.element.specs.Octets.{Octets}
-use Rattle.element.specs.Answer.{Answer, accepted, ◌>>=◌, ◌>>◌, check}
+use Rattle.element.specs.Answer.{Answer, accepted, ◌>>=◌, ◌>>◌}
 use Rattle.element.specs.Output.{written, output_after}
-use Rattle.component.specs.declared.Count as C
-use Rattle.component.specs.declared.Count.TheVariants as CV
+use Rattle.element.specs.declared.refusal.Refusal as F
 use Rattle.component.specs.Table.{table_size}
 use Rattle.component.specs.Composing.{Sizes}
 use Rattle.operation.specs.declared.summary.Outline as O
 use Rattle.operation.specs.Writing.{weighing_sizes}
 use Rattle.package.specs.Caller.{Part}
 use Rattle.package.specs.Told.{part_in}
+use Rattle.package.specs.inner.Leftover.{closing}
 use Rattle.package.specs.Writing.{code_for, write_each, carried_as, package_octets, laid_down}
 
 -- what the component writer is handed of a component
@@ -27,11 +28,11 @@ module _ (cs : List Part) (specifiers : ℕ) (table : List ℕ) (source : Octets
     accepted (flatten os)
 
   -- how many octets they take with those before them, which take `sum`: the first is component `i`, and `wrong` is the
-  -- index of one before them that the package does not carry, or 8
-  unfoldable pub weighed : (packet i wrong sum : ℕ) → Answer ℕ
+  -- index of the first before them that the package does not carry
+  unfoldable pub weighed : (packet i : ℕ) (wrong : Option ℕ) (sum : ℕ) → Answer ℕ
   weighed packet i wrong sum = do
     s ← sequence
-    check (leb 8 wrong) 24 wrong
+    closing wrong
     carried_as packet i cs specifiers
     accepted (sum + length s)
 
@@ -64,9 +65,9 @@ module _ (xs : List ℕ) (specifiers : ℕ) (table : List ℕ) (source : Octets)
   Noted n sets = (i : ℕ) → i < n → (z : Sizes) × (weighing_at i ≡ accepted z) × (get_or sets i 0 ≡ z.set)
 
   -- and of all, where all were weighed
-  abbrev pub AllNoted : (sets : List ℕ) → C.Count → Type 0
-  AllNoted sets (CV.Of octets) = Noted (length xs) sets
-  AllNoted sets (CV.Refused number detail) = Unit {0}
+  abbrev pub AllNoted : (sets : List ℕ) → Result ℕ F.Refusal → Type 0
+  AllNoted sets (Ok octets) = Noted (length xs) sets
+  AllNoted sets (Err r) = Unit {0}
 
 -- what is told of octets that are to be written, and what the output is afterwards
 abbrev pub Outcome : (out : Octets) → Answer Octets → (answer : Answer ℕ) (after : Octets) → Type 0

@@ -4,4 +4,4 @@ use Rattle.component.proofs.Sizing.{body_size_lem}
 use Rattle.component.proofs.composing.body_size.Goals as goal
 
 pub returns : goal.returns
-returns c = (rw (c.coding_size.ensures.0, c.element_size.ensures.0) (body_size_lem _ _ _ c.requires.0), omega arith)
+returns c = (rw (c.from.ensures, c.coding_size.ensures.0, c.element_size.ensures.0) (body_size_lem _ _ _ c.requires.0), omega arith)

@@ -1,36 +1,28 @@
 -- `component::compose` meets its contract.
 use native.Mathlib.Omega.{arith}
-use mathlib.Core.Path.{sym, ap, ◌∙◌}
-use Rattle.component.specs.Told.{measure_in}
-use Rattle.component.proofs.Outcome.{Found, found, refusal, short, no_room, head_ready, set_ready, all_put}
+use Rattle.std.proofs.lemmas.Result.{err_from_is_err_and}
+use Rattle.component.proofs.Outcome.{found, refusal, short, no_room, head_ready, set_ready, all_put}
 use Rattle.component.proofs.composing.compose.Goals as goal
-use Rattle.component.proofs.composing.compose.Lts as lts
-use Rattle.component.proofs.composing.compose.Reads as reads
-use Rattle.component.proofs.composing.compose.Tie as tie
 
-sizes : (c : lts.Past-After-known_told tie.the-claims reads.Pre reads.Post) →
-    let a = c.args in
-    Found a.kind a.id a.count a.table.now a.source.now c.in-Octets.whole c.in-Octets.body c.in-Octets.set
-sizes c = found _ _ _ _ _ (sym (ap measure_in c.in-Octets.is) ∙ c.measure.ensures)
+pub returns-in_err-sizes : goal.returns-in_err-sizes
+returns-in_err-sizes c =
+    let p = err_from_is_err_and c.from_residual.result c.from_residual.ensures.1 in
+    rw (p.1, p.2) (refusal _ _ _ _ _ _ _ c.in_err-sizes.ensures)
 
-pub overflow_cast-result : goal.overflow_cast-result
-overflow_cast-result c = omega (arith, short _ _ _ _ _ (sizes c.before.before))
+pub overflow_cast-sizes : goal.overflow_cast-sizes
+overflow_cast-sizes c = omega (arith, short _ _ _ _ _ (found _ _ _ _ _ c.in_ok-sizes.ensures))
 
-pub returns-then-out-whole : goal.returns-then-out-whole
-returns-then-out-whole c = no_room _ _ _ _ _ (sizes c.before.before) _ _ c.if-out-whole.true
+pub returns-then-out-sizes : goal.returns-then-out-sizes
+returns-then-out-sizes c = rw c.at.ensures (no_room _ _ _ _ _ (found _ _ _ _ _ c.in_ok-sizes.ensures) _ _ c.if-out-sizes.true)
 
 pub put_head-parameters-requires : goal.put_head-parameters-requires
 put_head-parameters-requires c =
-    let sized = c.before.before.before in
-    head_ready _ _ _ _ _ (sizes sized) _ sized.args.out.now c.if-out-whole.false
+    head_ready _ _ _ _ _ (found _ _ _ _ _ c.in_ok-sizes.ensures) _ c.args.out.now c.if-out-sizes.false
 
 pub put_parameters-requires : goal.put_parameters-requires
 put_parameters-requires c =
-    set_ready _ _ _ _ _ (sizes c.before.before.before.before.before.before.before) _ _ c.if-out-whole.false c.put_head-parameters.ensures c.put_head-parameters.auto.out
+    set_ready _ _ _ _ _ (found _ _ _ _ _ c.in_ok-sizes.ensures) _ _ c.if-out-sizes.false c.put_head-parameters.ensures c.put_head-parameters.auto.out
 
-pub returns-in-Octets : goal.returns-in-Octets
-returns-in-Octets c =
-    all_put _ _ _ _ _ (sizes c.before.before.before.before.before.before.before.before.before.before) _ _ c.if-out-whole.false c.put_head-parameters.ensures c.put_parameters.ensures
-
-pub returns-in-Refused : goal.returns-in-Refused
-returns-in-Refused c = refusal _ _ _ _ _ _ _ (sym (ap measure_in c.in-Refused.is) ∙ c.measure.ensures)
+pub returns : goal.returns
+returns c =
+    all_put _ _ _ _ _ (found _ _ _ _ _ c.in_ok-sizes.ensures) _ _ c.if-out-sizes.false c.put_head-parameters.ensures c.put_parameters.ensures

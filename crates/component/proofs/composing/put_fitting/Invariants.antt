@@ -8,10 +8,7 @@ use Rattle.component.proofs.Room.{rest}
 use Rattle.component.proofs.Putting.{Left}
 use Rattle.component.proofs.composing.put_fitting.Given as goal
 
-abbrev pub invariant-entries : goal.invariant-entries
-invariant-entries l =
-    (l.i ≤ l.count) × (length l.out ≡ length l.initial.out) × (l.next ≤ length l.initial.out)
+abbrev pub invariant-loop-i : goal.invariant-loop-i
+invariant-loop-i l =
+    (length l.out ≡ length l.initial.out) × (l.next ≤ length l.initial.out)
     × Left (fitting l.source (length l.initial.out - l.at) (held_from 0 l.count l.table)) l.at l.initial.out (rest l.count l.table l.source (length l.initial.out - l.next) l.i) l.next l.out
-
-abbrev pub decreases-entries : goal.decreases-entries
-decreases-entries l = l.count - l.i

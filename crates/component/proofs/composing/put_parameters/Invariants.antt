@@ -1,5 +1,4 @@
 -- `component::put_parameters` meets its contract.
-use Prim.Native.Nat.{◌-◌, ◌≤◌}
 use mathlib.Core.Path.{◌≡◌}
 use lib.ListN.{length}
 use Rattle.component.specs.Composed.{set_of}
@@ -8,9 +7,6 @@ use Rattle.component.proofs.Emission.{rest}
 use Rattle.component.proofs.Putting.{Left}
 use Rattle.component.proofs.composing.put_parameters.Given as goal
 
-abbrev pub invariant-entries : goal.invariant-entries
-invariant-entries l =
-    (l.i ≤ l.count) × (length l.out ≡ length l.initial.out) × Left (set_of (parameters_from 0 l.count l.table l.source)) l.at l.initial.out (rest l.count l.table l.source l.i) l.next l.out
-
-abbrev pub decreases-entries : goal.decreases-entries
-decreases-entries l = l.count - l.i
+abbrev pub invariant-loop-i : goal.invariant-loop-i
+invariant-loop-i l =
+    (length l.out ≡ length l.initial.out) × Left (set_of (parameters_from 0 l.count l.table l.source)) l.at l.initial.out (rest l.count l.table l.source l.i) l.next l.out

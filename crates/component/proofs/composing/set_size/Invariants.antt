@@ -1,14 +1,11 @@
 -- `component::set_size` meets its contract.
-use Prim.Native.Nat.{◌*◌, ◌-◌, ◌≤◌}
+use Prim.Native.Nat.{◌*◌, ◌≤◌}
 use mathlib.Core.Path.{◌≡◌}
 use Rattle.component.specs.Composing.{entries_from}
 use Rattle.component.specs.inner.Emitting.{sized}
 use Rattle.component.proofs.Counting.{left}
 use Rattle.component.proofs.composing.set_size.Given as goal
 
-abbrev pub invariant-entries : goal.invariant-entries
-invariant-entries l =
-    (l.i ≤ l.count) × (l.sum ≤ 65542 * l.i) × (sized (entries_from 0 l.count l.table l.source) ≡ left l.count l.table l.source l.i l.sum)
-
-abbrev pub decreases-entries : goal.decreases-entries
-decreases-entries l = l.count - l.i
+abbrev pub invariant-loop-i : goal.invariant-loop-i
+invariant-loop-i l =
+    (l.sum ≤ 65542 * l.i) × (sized (entries_from 0 l.count l.table l.source) ≡ left l.count l.table l.source l.i l.sum)

@@ -6,9 +6,13 @@ use borrow.Author.Rules.{rules}
 use Rattle.operation.proofs.Entries.{one_more, not_yet, none_before, before, passed}
 use Rattle.operation.proofs.Repeats as R
 use Rattle.operation.proofs.engine.fault.Goals as goal
+use Rattle.operation.proofs.engine.fault.Goals.{then-has+then-key-from+else-loop-first-test+else-before, else-has, else-has-via-then-has+else-key-from, else-has-via-else-has}
 
 pub parameters-init : goal.parameters-init
 parameters-init c = λ row _. (R.begins row _ _).again
+
+pub key_at-requires : goal.key_at-requires
+key_at-requires c = omega arith
 
 pub loop-first-init : goal.loop-first-init
 loop-first-init c = (search rules, none_before _ _)
@@ -23,35 +27,34 @@ loop-first-preserved c =
       sym (passed (one_more _ _) c.key_at.ensures c.loop-first-test.true) ∙ l.invariant.1,
     )
 
-pub parameters-preserved-else-before : goal.parameters-preserved-else-before
-parameters-preserved-else-before c =
-    let l = c.parameters in
-    let h = sym c.has.ensures ∙ c.if-has.true in
-    let e : c.loop-first.first ≡ l.at = omega arith in
-    λ row m. R.not_again row _ _ l.at c.if-count-at.false c.key_at-key.ensures (l.invariant row m) (rw (sym (m _) ∙ h) (R.not_before _ _ (rw e at c.loop-first.invariant.1)))
-
-pub parameters-preserved-else-key : goal.parameters-preserved-else-key
-parameters-preserved-else-key c =
-    let l = c.parameters in
-    let h = sym c.has.ensures ∙ c.if-has.true in
-    λ row m. R.not_again row _ _ l.at c.if-count-at.false c.key_at-key.ensures (l.invariant row m) (rw (sym (m _) ∙ h) (R.digits _ _ c.if-key.false))
-
 pub parameters-preserved : goal.parameters-preserved
 parameters-preserved c =
     let l = c.parameters in
-    let h = sym c.has.ensures ∙ c.if-has.false in
-    λ row m. R.not_again row _ _ l.at c.if-count-at.false c.key_at-key.ensures (l.invariant row m) (rw (sym (m _) ∙ h))
+    elim c.if-has.branch [
+      | then-has+then-key-from+else-loop-first-test+else-before w ↦
+          let h = sym c.has.ensures ∙ w.if-has.true in
+          let e : w.loop-first.first ≡ l.at = omega arith in
+          λ row m. R.not_again row _ _ l.at (omega arith) c.key_at-key.ensures (l.invariant row m) (rw (sym (m _) ∙ h) (R.not_before _ _ (rw e at w.loop-first.invariant.1)))
+      | else-has w ↦ elim w.else-has.branch [
+        | else-has-via-then-has+else-key-from v ↦
+            let h = sym c.has.ensures ∙ v.if-has.true in
+            λ row m. R.not_again row _ _ l.at (omega arith) c.key_at-key.ensures (l.invariant row m) (rw (sym (m _) ∙ h) (R.digits _ _ (omega arith)))
+        | else-has-via-else-has v ↦
+            let h = sym c.has.ensures ∙ v.if-has.false in
+            λ row m. R.not_again row _ _ l.at (omega arith) c.key_at-key.ensures (l.invariant row m) (rw (sym (m _) ∙ h))
+      ]
+    ]
 
-pub returns-then-count-at : goal.returns-then-count-at
-returns-then-count-at c =
+pub returns-then-entries-at : goal.returns-then-entries-at
+returns-then-entries-at c =
     let l = c.parameters in
-    record { judged = λ row m. rw (l.invariant row m ∙ R.none_again row _ _ l.at c.if-count-at.true) }
+    record { judged = λ row m. rw (l.invariant row m ∙ R.none_again row _ _ l.at (omega arith)) }
 
 pub returns-then-before : goal.returns-then-before
 returns-then-before c =
     let l = c.parameters in
     let h = sym c.has.ensures ∙ c.if-has.true in
     record {
-      judged = λ row m. rw (R.again row _ _ l.at c.if-count-at.false c.key_at-key.ensures (l.invariant row m) (sym (sym (m _) ∙ h)) (R.not_digits _ c.if-key.true)
+      judged = λ row m. rw (R.again row _ _ l.at (omega arith) c.key_at-key.ensures (l.invariant row m) (sym (sym (m _) ∙ h)) (R.not_digits _ (λ e. omega arith))
           (before _ _ c.if-before.true (sym c.loop-first-test.false ∙ c.key_at.ensures)));
     }

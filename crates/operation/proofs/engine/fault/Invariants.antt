@@ -11,13 +11,13 @@ use Rattle.operation.proofs.Repeats as R
 use Rattle.operation.proofs.engine.fault.Given as goal
 
 abbrev pub invariant-loop-first : goal.invariant-loop-first
-invariant-loop-first l = (l.first ≤ l.at) × (occurs l.key (earlier l.table l.first) ≡ false)
+invariant-loop-first l = (l.first ≤ l.at) × (occurs l.key (earlier l.entries.table.now l.first) ≡ false)
 
 abbrev pub decreases-loop-first : goal.decreases-loop-first
 decreases-loop-first l = l.at - l.first
 
 abbrev pub invariant-parameters : goal.invariant-parameters
-invariant-parameters l = (row : Row) → Names row l.names → R.Again row l.table l.count l.at
+invariant-parameters l = (row : Row) → Names row l.names → R.Again row l.entries.table.now l.entries.count l.at
 
 abbrev pub decreases-parameters : goal.decreases-parameters
-decreases-parameters l = l.count - l.at
+decreases-parameters l = l.entries.count - l.at

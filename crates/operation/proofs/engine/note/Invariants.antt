@@ -12,7 +12,7 @@ use Rattle.operation.proofs.engine.note.Given as goal
 
 abbrev pub invariant-parameters : goal.invariant-parameters
 invariant-parameters l =
-    (l.named ≤ l.at) × (l.at ≤ l.count) × (length l.seen ≡ 13) × N.Notes l.names l.table l.seen l.at × ((row : Row) → Names row l.names → R.Left row l.table l.count l.named l.at) × Words l.seen
+    (l.named ≤ l.at) × (l.at ≤ l.entries.count) × (length l.seen ≡ 13) × N.Notes l.names l.entries.table.now l.seen l.at × ((row : Row) → Names row l.names → R.Left row l.entries.table.now l.entries.count l.named l.at) × Words l.seen
 
 abbrev pub decreases-parameters : goal.decreases-parameters
-decreases-parameters l = l.count - l.at
+decreases-parameters l = l.entries.count - l.at

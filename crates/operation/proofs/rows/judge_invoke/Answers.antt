@@ -4,40 +4,24 @@ use Rattle.operation.specs.Row.{key, members, some_of, among, asks_nothing, grou
 use Rattle.operation.specs.Finding.{rowed, row_of, find}
 use Rattle.operation.specs.Rows.{operations}
 use Rattle.operation.specs.inner.Coded.{keys_in, word_of, words_from, words_of, apart, must_of, group_of, between, choice, sound}
-use Rattle.operation.proofs.Settling.{faulty, settled}
+use Rattle.operation.proofs.Settling.{arm}
 use Rattle.operation.proofs.rows.judge_invoke.Goals as goal
 
-pub returns-then-notes-count : goal.returns-then-notes-count
-unfolding row_of rowed find operations key members keys_in word_of words_from words_of some_of among apart
-returns-then-notes-count c = faulty 0xE9 c.in-4.is refl refl refl c.note-notes.ensures c.if-notes-count.true c.fault.ensures
-
-pub returns-then-notes-count-2 : goal.returns-then-notes-count-2
-unfolding row_of rowed find operations key members keys_in word_of words_from words_of some_of among apart
-returns-then-notes-count-2 c = faulty 0xE9 c.in-13.is refl refl refl c.note-notes-in-13.ensures c.if-notes-count-2.true c.fault-then-notes-count-2.ensures
-
-pub returns-then-notes-count-3 : goal.returns-then-notes-count-3
-unfolding row_of rowed find operations key members keys_in word_of words_from words_of some_of among apart
-returns-then-notes-count-3 c = faulty 0xE9 c.in-15.is refl refl refl c.note-notes-in-15.ensures c.if-notes-count-3.true c.fault-then-notes-count-3.ensures
-
-pub returns-then-notes-count-4 : goal.returns-then-notes-count-4
-unfolding row_of rowed find operations key members keys_in word_of words_from words_of some_of among apart
-returns-then-notes-count-4 c = faulty 0xE9 c.in-37.is refl refl refl c.note-notes-in-37.ensures c.if-notes-count-4.true c.fault-then-notes-count-4.ensures
-
-pub returns-else-notes-count : goal.returns-else-notes-count
+pub returns-in-4 : goal.returns-in-4
 unfolding row_of rowed find operations key members keys_in word_of words_from words_of some_of among apart must_of group_of asks_nothing group_last between choice sound
-returns-else-notes-count c = settled 0xE9 c.in-4.is refl refl refl refl refl c.note-notes.ensures c.if-notes-count.false c.settle.ensures
+returns-in-4 c = arm 0xE9 c.in-4.is refl refl refl refl refl c.judge.ensures
 
-pub returns-else-notes-count-2 : goal.returns-else-notes-count-2
+pub returns-in-13 : goal.returns-in-13
 unfolding row_of rowed find operations key members keys_in word_of words_from words_of some_of among apart must_of group_of asks_nothing group_last between choice sound
-returns-else-notes-count-2 c = settled 0xE9 c.in-13.is refl refl refl refl refl c.note-notes-in-13.ensures c.if-notes-count-2.false c.settle-in-13.ensures
+returns-in-13 c = arm 0xE9 c.in-13.is refl refl refl refl refl c.judge-in-13.ensures
 
-pub returns-else-notes-count-3 : goal.returns-else-notes-count-3
+pub returns-in-15 : goal.returns-in-15
 unfolding row_of rowed find operations key members keys_in word_of words_from words_of some_of among apart must_of group_of asks_nothing group_last between choice sound
-returns-else-notes-count-3 c = settled 0xE9 c.in-15.is refl refl refl refl refl c.note-notes-in-15.ensures c.if-notes-count-3.false c.settle-in-15.ensures
+returns-in-15 c = arm 0xE9 c.in-15.is refl refl refl refl refl c.judge-in-15.ensures
 
-pub returns-else-notes-count-4 : goal.returns-else-notes-count-4
+pub returns-in-37 : goal.returns-in-37
 unfolding row_of rowed find operations key members keys_in word_of words_from words_of some_of among apart must_of group_of asks_nothing group_last between choice sound
-returns-else-notes-count-4 c = settled 0xE9 c.in-37.is refl refl refl refl refl c.note-notes-in-37.ensures c.if-notes-count-4.false c.settle-in-37.ensures
+returns-in-37 c = arm 0xE9 c.in-37.is refl refl refl refl refl c.judge-in-37.ensures
 
 pub returns-in_default : goal.returns-in_default
 returns-in_default c = c.judge_page.ensures

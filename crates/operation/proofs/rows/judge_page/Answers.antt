@@ -5,25 +5,17 @@ use Rattle.operation.specs.Row.{key, members, some_of, among, asks_nothing, grou
 use Rattle.operation.specs.Finding.{rowed, row_of, find}
 use Rattle.operation.specs.Rows.{operations}
 use Rattle.operation.specs.inner.Coded.{keys_in, word_of, words_from, words_of, apart, must_of, group_of, between, choice, sound}
-use Rattle.operation.proofs.Settling.{faulty, settled}
+use Rattle.operation.proofs.Settling.{arm}
 use Rattle.operation.proofs.Verdicts.{no_invoke}
 use Rattle.operation.proofs.rows.judge_page.Goals as goal
 
-pub returns-then-notes-count : goal.returns-then-notes-count
-unfolding row_of rowed find operations key members keys_in word_of words_from words_of some_of among apart
-returns-then-notes-count c = faulty 0xE9 c.in-32.is refl refl refl c.note-notes.ensures c.if-notes-count.true c.fault.ensures
-
-pub returns-then-notes-count-2 : goal.returns-then-notes-count-2
-unfolding row_of rowed find operations key members keys_in word_of words_from words_of some_of among apart
-returns-then-notes-count-2 c = faulty 0xE9 c.in-101.is refl refl refl c.note-notes-in-101.ensures c.if-notes-count-2.true c.fault-then-notes-count-2.ensures
-
-pub returns-else-notes-count : goal.returns-else-notes-count
+pub returns-in-32 : goal.returns-in-32
 unfolding row_of rowed find operations key members keys_in word_of words_from words_of some_of among apart must_of group_of asks_nothing group_last between choice sound
-returns-else-notes-count c = settled 0xE9 c.in-32.is refl refl refl refl refl c.note-notes.ensures c.if-notes-count.false c.settle.ensures
+returns-in-32 c = arm 0xE9 c.in-32.is refl refl refl refl refl c.judge.ensures
 
-pub returns-else-notes-count-2 : goal.returns-else-notes-count-2
+pub returns-in-101 : goal.returns-in-101
 unfolding row_of rowed find operations key members keys_in word_of words_from words_of some_of among apart must_of group_of asks_nothing group_last between choice sound
-returns-else-notes-count-2 c = settled 0xE9 c.in-101.is refl refl refl refl refl c.note-notes-in-101.ensures c.if-notes-count-2.false c.settle-in-101.ensures
+returns-in-101 c = arm 0xE9 c.in-101.is refl refl refl refl refl c.judge-in-101.ensures
 
 pub returns-in_default : goal.returns-in_default
-returns-in_default c = no_invoke _ c.requires.2 c.in_default.in_default-own.rest
+returns-in_default c = no_invoke _ c.requires c.in_default.in_default-own.rest

@@ -1,8 +1,10 @@
--- `operation::judge_sheet` meets its contract: a type behind the RESULT has no row.
-use borrow.Author.Rules.{rules}
+-- `operation::judge_sheet` meets its contract: an ERROR and a REJECT have no row.
+use mathlib.Core.Logic.{⊎_elim}
 use native.Mathlib.Omega.{arith}
 use Rattle.operation.proofs.Verdicts.{no_kind}
 use Rattle.operation.proofs.rows.judge_sheet.Goals as goal
 
-pub returns-then-kind-gt234 : goal.returns-then-kind-gt234
-returns-then-kind-gt234 c = no_kind _ _ ((search rules, λ e. omega (arith, e, c.if-kind-gt234.true)), λ e. omega (arith, e, c.if-kind-gt234.true))
+pub returns-in-Error : goal.returns-in-Error
+returns-in-Error c =
+    ⊎_elim (λ e. rw e (no_kind _ _ ((tt, λ e. omega arith), λ e. omega arith)))
+    (λ e. rw e (no_kind _ _ ((tt, λ e. omega arith), λ e. omega arith))) c.in-Error.is

@@ -1,21 +1,18 @@
 -- `operation::show_entries` meets its contract.
-use borrow.Author.Tests.{le-leb, lt-leb}
-use mathlib.Core.Path.{refl, ◌∙◌}
+use Rattle.std.proofs.Common.{rules, tests}
 use Rattle.operation.specs.inner.Sheet.{shown_from}
 use Rattle.operation.proofs.sheet.show_entries.Goals as goal
+use Rattle.operation.proofs.sheet.show_entries.Goals.{then-count-gt64-via-then-count-gt64, then-count-gt64-via-else-count-gt64+then-sheet-count, then-count-gt64-via-else-count-gt64+else-sheet-count+then-table-count}
 
 pub returns-then-count-gt64 : goal.returns-then-count-gt64
 unfolding shown_from
-returns-then-count-gt64 c = simp (lt-leb _ _ c.if-count-gt64.true)
-
-pub returns-then-sheet-count : goal.returns-then-sheet-count
-unfolding shown_from
-returns-then-sheet-count c = simp (le-leb _ _ c.if-count-gt64.false, lt-leb _ _ c.if-sheet-count.true)
-
-pub returns-then-table-count : goal.returns-then-table-count
-unfolding shown_from
-returns-then-table-count c = simp (le-leb _ _ c.if-count-gt64.false, le-leb _ _ c.if-sheet-count.false, lt-leb _ _ c.if-table-count.true)
+returns-then-count-gt64 c =
+    elim c.then-count-gt64.branch [
+      | then-count-gt64-via-then-count-gt64 w ↦ search (rules, tests)
+      | then-count-gt64-via-else-count-gt64+then-sheet-count w ↦ search (rules, tests)
+      | then-count-gt64-via-else-count-gt64+else-sheet-count+then-table-count w ↦ search (rules, tests)
+    ]
 
 pub returns : goal.returns
 unfolding shown_from
-returns c = c.copy_numbers.ensures ∙ rw (le-leb _ _ c.if-count-gt64.false, le-leb _ _ c.if-sheet-count.false, le-leb _ _ c.if-table-count.false) refl
+returns c = search (rules, tests)

@@ -1,20 +1,21 @@
 -- `package::pick` meets its contract.
 use borrow.Author.Tests.{ne_eqb}
+use native.Mathlib.Omega.{arith}
 use Rattle.package.specs.Carriage.{column}
 use Rattle.package.proofs.carriage.pick.Goals as goal
 
-pub returns : goal.returns
+pub returns-in-233 : goal.returns-in-233
 unfolding column
-returns c = simp (ne_eqb _ _ c.if-kind-eq233.false, ne_eqb _ _ c.if-kind-eq234.false, ne_eqb _ _ c.if-kind-eq235.false)
+returns-in-233 c = rw c.in-233.is
 
-pub returns-then-kind-eq233 : goal.returns-then-kind-eq233
+pub returns-in-234 : goal.returns-in-234
 unfolding column
-returns-then-kind-eq233 c = rw c.if-kind-eq233.true
+returns-in-234 c = rw c.in-234.is
 
-pub returns-then-kind-eq234 : goal.returns-then-kind-eq234
+pub returns-in-235 : goal.returns-in-235
 unfolding column
-returns-then-kind-eq234 c = rw c.if-kind-eq234.true
+returns-in-235 c = rw c.in-235.is
 
-pub returns-then-kind-eq235 : goal.returns-then-kind-eq235
+pub returns-in_default : goal.returns-in_default
 unfolding column
-returns-then-kind-eq235 c = rw c.if-kind-eq235.true
+returns-in_default c = simp (ne_eqb c.args.kind 0xE9 (λ e. omega arith), ne_eqb c.args.kind 0xEA (λ e. omega arith), ne_eqb c.args.kind 0xEB (λ e. omega arith))

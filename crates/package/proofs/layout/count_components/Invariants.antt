@@ -4,8 +4,8 @@ use lib.ListN.{length}
 use Rattle.package.proofs.Counting.{Counted}
 use Rattle.package.proofs.layout.count_components.Given as goal
 
-abbrev pub invariant-components : goal.invariant-components
-invariant-components l = (l.at ≤ length l.octets) × (l.count ≤ l.at) × Counted l.octets l.first l.at l.count
+abbrev pub invariant-loop-at : goal.invariant-loop-at
+invariant-loop-at l = (l.at ≤ length l.octets) × (l.count ≤ l.at) × Counted l.octets l.first l.at l.count
 
-abbrev pub decreases-components : goal.decreases-components
-decreases-components l = length l.octets - l.at
+abbrev pub decreases-loop-at : goal.decreases-loop-at
+decreases-loop-at l = length l.octets - l.at

@@ -1,16 +1,17 @@
 -- `package::id_size` meets its contract.
 use borrow.Author.Tests.{le-ltb, lt-ltb, ne_eqb}
+use native.Mathlib.Omega.{arith}
 use Rattle.package.specs.Types.{id_size}
 use Rattle.package.proofs.layout.id_size.Goals as goal
 
-pub returns-then-kind-lt229 : goal.returns-then-kind-lt229
+pub returns-in-225 : goal.returns-in-225
 unfolding id_size
-returns-then-kind-lt229 c = simp (ne_eqb _ _ c.if-kind-eq225.false, lt-ltb _ _ c.if-kind-lt229.true)
+returns-in-225 c = rw c.in-225.is
 
-pub returns : goal.returns
+pub returns-in-0-to-228 : goal.returns-in-0-to-228
 unfolding id_size
-returns c = simp (ne_eqb _ _ c.if-kind-eq225.false, le-ltb _ _ c.if-kind-lt229.false)
+returns-in-0-to-228 c = simp (ne_eqb c.args.kind 0xE1 (λ e. omega arith), lt-ltb c.args.kind 0xE5 (omega arith))
 
-pub returns-then-kind-eq225 : goal.returns-then-kind-eq225
+pub returns-in_default : goal.returns-in_default
 unfolding id_size
-returns-then-kind-eq225 c = rw c.if-kind-eq225.true
+returns-in_default c = simp (ne_eqb c.args.kind 0xE1 (λ e. omega arith), le-ltb c.args.kind 0xE5 (omega arith))

@@ -5,7 +5,7 @@ use lib.ListN.{length, length-drop}
 use Rattle.element.specs.Octets.{AreOctets}
 use Rattle.operation.specs.Reading.{table_after}
 use Rattle.package.specs.Reading.{Placed}
-use Rattle.package.specs.inner.Leftover.{rest_in, leftover, done, tables_rest, places_rest, summaries_rest}
+use Rattle.package.specs.inner.Leftover.{leftover, done, tables_rest, places_rest, summaries_rest}
 use Rattle.package.proofs.Left.{leads_on, stops, refusing, continues, none_left, all_done, not_done}
 use Rattle.package.proofs.Filling.{table_shown, place_shown, summary_shown, unchanged}
 use native.Mathlib.Omega.{arith}
@@ -23,22 +23,24 @@ end_of-end-requires t c =
     let first = leads_on s o c.args.left c.if-left-eq0.false c.requires.0 in
     (first.inside, c.requires.1)
 
-pub slice_bounds-summary_from-end : goal.slice_bounds-summary_from-end
-slice_bounds-summary_from-end t c =
+pub slice_bounds-summarize-end : goal.slice_bounds-summarize-end
+slice_bounds-summarize-end t c =
     let s = c.args.octets.now in
     let o : AreOctets s = λ i. (c.shared_slice_known-1.given i).fits in
     let first = leads_on s o c.args.left c.if-left-eq0.false c.requires.0 in
     omega (arith, c.end_of-end.ensures _ first.found, first.held.inside)
 
-pub returns-then-summary-ne0 : goal.returns-then-summary-ne0
+pub returns-in-Err : goal.returns-in-Err
 unfolding done tables_rest places_rest summaries_rest
-returns-then-summary-ne0 t c =
+returns-in-Err t c =
     let a = c.args in
     let s = a.octets.now in
     let o : AreOctets s = λ i. (c.shared_slice_known-1.given i).fits in
     let first = leads_on s o a.left c.if-left-eq0.false c.requires.0 in
-    rw (stops a.packet s c.if-left-eq0.false c.requires.0.some first a.specifiers a.wrong
-    (refusing s o c.requires.1 first (a.specifiers % 256) (omega arith) (c.end_of-end.ensures _ first.found) c.summary_from-summary.ensures.0 c.if-summary-ne0.true))
+    rw
+    (stops a.packet s c.if-left-eq0.false c.requires.0.some first a.specifiers a.wrong
+    (refusing s o c.requires.1 first (a.specifiers % 256) (omega arith) (c.end_of-end.ensures _ first.found)
+    c.in-Err.ensures.refused))
     (refl, refl, refl, refl)
 
 pub first_wrong-wrong-requires : goal.first_wrong-wrong-requires
@@ -77,39 +79,41 @@ show-requires t c =
     )
 
 -- the entries of the component that was read are shown in front of those behind it
-pub returns-in-Accepted : goal.returns-in-Accepted
+pub returns-in-Ok-read_rest : goal.returns-in-Ok-read_rest
 unfolding done tables_rest places_rest summaries_rest table_after
-returns-in-Accepted t c =
+returns-in-Ok-read_rest t c =
     let a = c.args in
     let s = a.octets.now in
     let o : AreOctets s = λ i. (c.shared_slice_known-1.given i).fits in
     let more = c.if-left-eq0.false in
     let first = leads_on s o a.left more c.requires.0 in
     let k = continues a.packet s o c.requires.1 more c.requires.0.some first a.specifiers a.wrong
-    (c.end_of-end.ensures _ first.found) c.summary_from-summary.ensures.0 c.if-summary-ne0.false c.first_wrong-wrong.ensures in
-    let (ys, e) = all_done (leftover a.packet s c.end_of-end.result (a.left - 1) (a.specifiers / 256) c.first_wrong-wrong.result) (sym c.read_rest.ensures.0 ∙ ap rest_in c.in-Accepted.is) in
+    (c.end_of-end.ensures _ first.found) c.in-Ok.ensures.accepted (rw (c.outline_of-outline.ensures.0, ap (λ x. x.first) c.outline_of-outline.ensures.2) at c.first_wrong-wrong.ensures) in
+    let r = c.in-Ok-read_rest.ensures in
+    let (ys, e) = all_done (leftover a.packet s c.end_of-end.result (a.left - 1) (a.specifiers / 256) c.first_wrong-wrong.result) (sym r.0) in
     let y : Placed = record { place = a.at; shown = k.shown } in
     rw (k.is, e) (
       refl,
-      table_shown e y _ a.table.now c.read_rest.ensures.1 c.show.ensures.0 (sym (ap (λ x. x.all) k.told_so)) k.few (omega (arith, c.requires.2, more)) (c.summary_from-summary.ensures.1 ∙ ap (table_after _) k.read) c.summary_from-summary.auto.table,
-      place_shown e y a.places.now (omega (arith, c.requires.3, more)) c.read_rest.ensures.2 c.show.ensures.1,
-      summary_shown e y a.summaries.now (omega (arith, c.requires.4, more)) k.packed c.read_rest.ensures.3 c.show.ensures.2,
+      table_shown e y _ a.table.now r.1 c.show.ensures.0 (sym (ap (λ x. x.all) k.told_so)) k.few (omega (arith, c.requires.2, more)) (c.in-Ok.ensures.table ∙ ap (table_after _) k.read) c.summarize.auto.table,
+      place_shown e y a.places.now (omega (arith, c.requires.3, more)) r.2 c.show.ensures.1,
+      summary_shown e y a.summaries.now (omega (arith, c.requires.4, more)) k.packed r.3 c.show.ensures.2,
     )
 
-pub returns-in-Refused : goal.returns-in-Refused
+pub returns-in-Err-read_rest : goal.returns-in-Err-read_rest
 unfolding done tables_rest places_rest summaries_rest
-returns-in-Refused t c =
+returns-in-Err-read_rest t c =
     let a = c.args in
     let s = a.octets.now in
     let o : AreOctets s = λ i. (c.shared_slice_known-1.given i).fits in
     let more = c.if-left-eq0.false in
     let first = leads_on s o a.left more c.requires.0 in
     let k = continues a.packet s o c.requires.1 more c.requires.0.some first a.specifiers a.wrong
-    (c.end_of-end.ensures _ first.found) c.summary_from-summary.ensures.0 c.if-summary-ne0.false c.first_wrong-wrong.ensures in
-    let e = not_done (leftover a.packet s c.end_of-end.result (a.left - 1) (a.specifiers / 256) c.first_wrong-wrong.result) (sym c.read_rest.ensures.0 ∙ ap rest_in c.in-Refused.is) in
+    (c.end_of-end.ensures _ first.found) c.in-Ok.ensures.accepted (rw (c.outline_of-outline.ensures.0, ap (λ x. x.first) c.outline_of-outline.ensures.2) at c.first_wrong-wrong.ensures) in
+    let r = c.in-Err-read_rest.ensures in
+    let e = not_done (leftover a.packet s c.end_of-end.result (a.left - 1) (a.specifiers / 256) c.first_wrong-wrong.result) (sym r.0) in
     rw (k.is, e) (
       refl,
-      unchanged 320 a.table.now (omega (arith, c.requires.2, more)) (c.read_rest.ensures.1 ∙ rw e refl),
-      unchanged 1 a.places.now (omega (arith, c.requires.3, more)) (c.read_rest.ensures.2 ∙ rw e refl),
-      unchanged 1 a.summaries.now (omega (arith, c.requires.4, more)) (c.read_rest.ensures.3 ∙ rw e refl),
+      unchanged 320 a.table.now (omega (arith, c.requires.2, more)) (r.1 ∙ rw e refl),
+      unchanged 1 a.places.now (omega (arith, c.requires.3, more)) (r.2 ∙ rw e refl),
+      unchanged 1 a.summaries.now (omega (arith, c.requires.4, more)) (r.3 ∙ rw e refl),
     )

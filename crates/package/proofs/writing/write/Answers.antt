@@ -1,69 +1,38 @@
 -- `package::write` meets its contract.
-use mathlib.Core.Path.{◌≡◌, refl, sym, ap, ◌∙◌}
-use mathlib.Core.Bool.{true, and-false}
-use lib.ListN.{length-map}
-use borrow.Author.Tests.{not-true, not-false, le-leb, lt-leb, eq-eqb, ne_eqb}
+use mathlib.Core.Path.{◌≡◌, refl, sym, ◌∙◌}
+use mathlib.Core.Bool.{false}
+use lib.ListN.{length, length-map}
+use borrow.Author.Tests.{le-leb, lt-leb, eq-eqb, ne_eqb, eqb-true}
+use native.Mathlib.Omega.{arith}
 use Rattle.element.specs.Output.{written, output_after}
-use Rattle.component.specs.Told.{count_in}
-use Rattle.package.specs.Types.{package_type}
 use Rattle.package.specs.Reading.{few}
 use Rattle.package.specs.Writing.{package_writing}
-use Rattle.package.proofs.Laying.{Ready, asked, writes, refuses}
+use Rattle.package.proofs.Steps.{not_few}
 use Rattle.package.proofs.writing.write.Goals as goal
-use Rattle.package.proofs.writing.write.Lts as lts
-use Rattle.package.proofs.writing.write.Reads as reads
-use Rattle.package.proofs.writing.write.Tie as tie
-
-typed : (c : lts.Else2 tie.the-claims reads.Pre reads.Post) → package_type c.args.kind ≡ true
-typed c = sym c.is_package.ensures ∙ not-false _ c.if-not-is_package.false-raw
+use Rattle.package.proofs.writing.write.Goals.{then-not-is_package-via-then-not-is_package, then-not-is_package-via-else-not-is_package+then-ids-id_size, then-is_empty-via-then-is_empty, then-is_empty-via-else-is_empty+then-components-gt8}
 
 pub returns-then-table-lt-TABLES : goal.returns-then-table-lt-TABLES
 unfolding package_writing written output_after
-returns-then-table-lt-TABLES c = simp (lt-leb _ _ c.if-table-lt-TABLES.true) (refl, refl)
+returns-then-table-lt-TABLES c = simp (c.at.ensures, lt-leb _ _ c.if-table-lt-TABLES.true) (refl, refl)
 
 pub returns-then-not-is_package : goal.returns-then-not-is_package
 unfolding package_writing written output_after
-returns-then-not-is_package c = simp (le-leb _ _ c.if-table-lt-TABLES.false, sym c.is_package.ensures ∙ not-true _ c.if-not-is_package.true-raw) (refl, refl)
+returns-then-not-is_package c =
+    elim c.then-not-is_package.branch [
+      | then-not-is_package-via-then-not-is_package w ↦
+          simp (c.at-then-not-is_package.ensures, le-leb _ _ c.if-table-lt-TABLES.false, sym c.is_package.ensures ∙ w.if-not-is_package.true) (refl, refl)
+      | then-not-is_package-via-else-not-is_package+then-ids-id_size w ↦
+          simp (c.at-then-not-is_package.ensures, le-leb _ _ c.if-table-lt-TABLES.false, sym c.is_package.ensures ∙ w.if-not-is_package.false, ne_eqb _ _ (λ e. w.if-ids-id_size.true (e ∙ sym w.id_size.ensures))) (refl, refl)
+    ]
 
-pub returns-then-ids-id_size : goal.returns-then-ids-id_size
+pub returns-then-is_empty : goal.returns-then-is_empty
 unfolding package_writing written output_after
-returns-then-ids-id_size c =
-    let d = c.before.before.before in
-    simp (le-leb _ _ d.if-table-lt-TABLES.false, typed d, ne_eqb _ _ (λ e. c.if-ids-id_size.true (e ∙ sym c.id_size.ensures))) (refl, refl)
-
-pub returns-then-components-eq0 : goal.returns-then-components-eq0
-unfolding package_writing few written output_after
-returns-then-components-eq0 c =
-    let d = c.before.before.before.before in
-    simp (le-leb _ _ d.if-table-lt-TABLES.false, typed d, eq-eqb _ _ (c.if-ids-id_size.false ∙ c.id_size.ensures), length-map, c.if-components-eq0.true) (refl, refl)
-
-pub returns-then-components-gt8 : goal.returns-then-components-gt8
-unfolding package_writing few written output_after
-returns-then-components-gt8 c =
-    let d = c.before.before.before.before.before in
-    simp (le-leb _ _ d.if-table-lt-TABLES.false, typed d, eq-eqb _ _ (c.if-ids-id_size.false ∙ c.id_size.ensures), length-map, lt-leb _ _ c.if-components-gt8.true, and-false) (refl, refl)
-
-ready : (c : lts.Else5 tie.the-claims reads.Pre reads.Post) →
-    let a = c.args in Ready a.kind a.ids.now a.components.now a.table.now
-ready c =
-    let d = c.before.before.before.before in
-    record {
-      tables = d.if-table-lt-TABLES.false;
-      typed = typed d;
-      identified = c.if-ids-id_size.false ∙ c.id_size.ensures;
-      some = c.if-components-eq0.false;
-      few = c.if-components-gt8.false;
-    }
-
-pub put_weighed-requires : goal.put_weighed-requires
-put_weighed-requires c =
-    let weighed = c.before.before.before in
-    asked _ _ _ _ _ _ (ready weighed.before) (sym (ap count_in c.in-Of.is) ∙ weighed.weigh_rest.ensures)
-
-pub returns-in-Of : goal.returns-in-Of
-returns-in-Of c =
-    let weighed = c.before.before.before.before.before.before in
-    writes _ _ _ _ _ _ (ready weighed.before) _ (sym (ap count_in c.in-Of.is) ∙ weighed.weigh_rest.ensures) c.put_weighed.ensures
-
-pub returns-in-Refused : goal.returns-in-Refused
-returns-in-Refused c = let weighed = c.before.before in refuses _ _ _ _ _ _ (ready weighed.before) _ (sym (ap count_in c.in-Refused.is) ∙ weighed.weigh_rest.ensures)
+returns-then-is_empty c =
+    let count = length c.args.components.now in
+    let miscounted : few count ≡ false =
+    elim c.then-is_empty.branch [
+      | then-is_empty-via-then-is_empty w ↦
+          let none = eqb-true count 0 (sym c.is_empty.ensures ∙ w.if-is_empty.true) in not_few (λ h. omega arith)
+      | then-is_empty-via-else-is_empty+then-components-gt8 w ↦ not_few (λ h. omega arith)
+    ] in
+    simp (c.at-then-is_empty.ensures, le-leb _ _ c.if-table-lt-TABLES.false, sym c.is_package.ensures ∙ c.if-not-is_package.false, eq-eqb _ _ (c.if-ids-id_size.false ∙ c.id_size.ensures), length-map, miscounted) (refl, refl)
