@@ -32,6 +32,8 @@ struct Component<'a> {
     ghost short: { length octets.now ≤ 4096 },
 }
 
+// A refusal is handed on by its reason and its detail: moved whole, it goes through memory, octet by octet where it is
+// padded, and the reader waits for that.
 impl Component<'_> {
     // ---- one element
 
@@ -83,7 +85,8 @@ impl Component<'_> {
     {
         match self.wanted_at(0xF2, Reason::Set, at) {
             Ok(set) if set.end != self.octets.len() => Err(Reason::LeftOver.at(set.end as u32)),
-            found => found,
+            Ok(Span { start, end }) => Ok(Span { start, end }),
+            Err(Refusal { reason, detail }) => Err(reason.at(detail)),
         }
     }
 
@@ -116,7 +119,7 @@ impl Component<'_> {
                     end,
                 })
             }
-            Err(refusal) => Err(refusal),
+            Err(Refusal { reason, detail }) => Err(reason.at(detail)),
         }
     }
 
@@ -154,9 +157,9 @@ impl Component<'_> {
                     code: code.start,
                     set: set.start,
                 }),
-                Err(refusal) => Err(refusal),
+                Err(Refusal { reason, detail }) => Err(reason.at(detail)),
             },
-            Err(refusal) => Err(refusal),
+            Err(Refusal { reason, detail }) => Err(reason.at(detail)),
         }
     }
 
@@ -172,7 +175,7 @@ impl Component<'_> {
         match self.wanted_at(0xCF, Reason::Id, start) {
             Ok(id) if kind.fits(id.end - id.start) => self.behind_id(kind, id),
             Ok(_) => Err(Reason::Id.at(start as u32)),
-            Err(refusal) => Err(refusal),
+            Err(Refusal { reason, detail }) => Err(reason.at(detail)),
         }
     }
 
@@ -198,7 +201,7 @@ impl Component<'_> {
                 size: end - start,
                 place: at,
             }),
-            Err(refusal) => Err(refusal),
+            Err(Refusal { reason, detail }) => Err(reason.at(detail)),
         }
     }
 }
@@ -259,7 +262,7 @@ pub fn head_from(octets: &[u8], from: usize) -> Result<Head, Refusal>
     match component.contents_at(from, from + 1) {
         Ok(body) if body.end == octets.len() => component.body_at(kind, body.start),
         Ok(body) => Err(Reason::LeftOver.at(body.end as u32)),
-        Err(refusal) => Err(refusal),
+        Err(Refusal { reason, detail }) => Err(reason.at(detail)),
     }
 }
 

@@ -94,6 +94,10 @@ complete (only number form h k) rest =
       e,
     ))
 
+pub read_back : (number form : ℕ) → number ≤ 16383 → form ≤ 1 → (rest : Octets) →
+    identifier_at (identifier number form ++ rest) ≡ an_identifier number form (length (identifier number form))
+read_back number form h k rest = complete (only number form h k) rest
+
 pub same_identifier : {a b c d j k : ℕ} → an_identifier a c j ≡ an_identifier b d k → (a ≡ b) × (c ≡ d) × (j ≡ k)
 same_identifier e =
     let alike = same_Some _ _ e in

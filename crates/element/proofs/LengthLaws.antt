@@ -64,6 +64,9 @@ complete (one {n} h) rest = simp (leb-suc-zero, lt-ltb n 128)
 complete (two h) rest = simp (leb-suc-zero, lt-leb (suc (suc (length rest))) 1 (omega arith))
 complete (three h k) rest = simp (leb-suc-zero, lt-leb (suc (suc (suc (length rest)))) 2 (omega arith))
 
+pub read_back : (n : ℕ) → n < 65536 → (rest : Octets) → length_at (shortest n ++ rest) ≡ a_length n (length (shortest n))
+read_back n h rest = complete (short n h) rest
+
 pub same_length : {n m j k : ℕ} → a_length n j ≡ a_length m k → (n ≡ m) × (j ≡ k)
 same_length e =
     let alike = same_Some _ _ e in

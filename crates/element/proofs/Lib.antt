@@ -1,4 +1,5 @@
 pub mod Reading
+pub mod Ways
 pub mod LengthLaws
 pub mod IdentifierLaws
 pub mod FieldLaws

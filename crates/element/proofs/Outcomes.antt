@@ -20,29 +20,29 @@ one_told tell back again {x = x} {y = y} p q = sym (again x) ∙ ap back (p ∙ 
 -- ---- a refusal: its number leads back to the reason
 abbrev reason_of : ℕ → R.Reason
 reason_of n =
-    if (eqb n 1) RV.Table (
-    if (eqb n 2) RV.Size (
-    if (eqb n 3) RV.Type (
-    if (eqb n 4) RV.Length (
-    if (eqb n 5) RV.Overrun (
-    if (eqb n 6) RV.Id (
-    if (eqb n 7) RV.Operation (
-    if (eqb n 8) RV.Set (
-    if (eqb n 9) RV.Identifier (
-    if (eqb n 10) RV.Many (
-    if (eqb n 11) RV.NoRow (
-    if (eqb n 12) RV.Again (
-    if (eqb n 13) RV.Missing (
-    if (eqb n 14) RV.Both (
-    if (eqb n 15) RV.TooLong (
-    if (eqb n 16) RV.Entry (
-    if (eqb n 17) RV.Output (
-    if (eqb n 20) RV.LeftOver (
-    if (eqb n 21) RV.Problem (
-    if (eqb n 22) RV.Layout (
-    if (eqb n 23) RV.Count (
-    if (eqb n 24) RV.Package (
-    if (eqb n 25) RV.Ended (
+    if (eqb n (number_of RV.Table)) RV.Table (
+    if (eqb n (number_of RV.Size)) RV.Size (
+    if (eqb n (number_of RV.Type)) RV.Type (
+    if (eqb n (number_of RV.Length)) RV.Length (
+    if (eqb n (number_of RV.Overrun)) RV.Overrun (
+    if (eqb n (number_of RV.Id)) RV.Id (
+    if (eqb n (number_of RV.Operation)) RV.Operation (
+    if (eqb n (number_of RV.Set)) RV.Set (
+    if (eqb n (number_of RV.Identifier)) RV.Identifier (
+    if (eqb n (number_of RV.Many)) RV.Many (
+    if (eqb n (number_of RV.NoRow)) RV.NoRow (
+    if (eqb n (number_of RV.Again)) RV.Again (
+    if (eqb n (number_of RV.Missing)) RV.Missing (
+    if (eqb n (number_of RV.Both)) RV.Both (
+    if (eqb n (number_of RV.TooLong)) RV.TooLong (
+    if (eqb n (number_of RV.Entry)) RV.Entry (
+    if (eqb n (number_of RV.Output)) RV.Output (
+    if (eqb n (number_of RV.LeftOver)) RV.LeftOver (
+    if (eqb n (number_of RV.Problem)) RV.Problem (
+    if (eqb n (number_of RV.Layout)) RV.Layout (
+    if (eqb n (number_of RV.Count)) RV.Count (
+    if (eqb n (number_of RV.Package)) RV.Package (
+    if (eqb n (number_of RV.Ended)) RV.Ended (
     RV.WrongSize)))))))))))))))))))))))
 
 same_reason : (r : R.Reason) → reason_of (number_of r) ≡ r

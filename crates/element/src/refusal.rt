@@ -1,5 +1,5 @@
 // Why a reading or a writing is refused.
-ghost use Rattle.std.specs.Prelude.{◌≡◌};
+ghost use Rattle.std.specs.Prelude.{◌≡◌, eqb, false};
 ghost use Rattle.element.specs.Told.{number_of};
 
 use std::error::Error;
@@ -59,8 +59,10 @@ pub enum Reason {
 }
 
 impl Reason {
+    // 18 is no number of these, and gets no other sense.
     pub fn number(self) -> u8
-        ensures { result ≡ number_of self }
+        ensures number { result ≡ number_of self }
+        ensures never { eqb result 18 ≡ false }
     {
         self as u8
     }

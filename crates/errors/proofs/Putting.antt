@@ -2,7 +2,7 @@
 use Prim.Native.Nat.{ℕ, ◌+◌, ◌<◌, ◌≤◌}
 use mathlib.Core.Path.{◌≡◌, refl, sym, ap, ◌∙◌}
 use mathlib.Core.Bool.{Bool, true, false}
-use mathlib.Core.List.{◌++◌}
+use mathlib.Core.List.{[], ◌++◌}
 use lib.ListN.{length, drop, length-drop}
 use lib.Seq.{length-take-le}
 use native.Mathlib.Nat.{add-sub_cancel_left}
@@ -38,6 +38,11 @@ module _ {code : ℕ} (octet : code < 256) {r : P.Part} (e : r ≡ part_of code)
   unfolding naming written output_after
   whole out h e =
       simp (sized, le-leb r.size (length out)) (refl, ap (λ p. p ++ drop r.size out) (e ∙ simp (add-sub_cancel_left, name_part.part)))
+
+  -- a reserved code has a name of no octets
+  pub unnamed : (out : Octets) → r.size ≡ 0 →
+      (accepted 0 ≡ written (naming code (length out))) × (out ≡ output_after out (naming code (length out)))
+  unnamed out z = rw z at (whole out (omega arith) {part = []} (simp (add-sub_cancel_left, z)))
 
   pub cramped : (out : Octets) → length out < r.size →
       (refused 17 r.size ≡ written (naming code (length out))) ×

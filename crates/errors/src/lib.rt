@@ -56,6 +56,10 @@ pub fn put_name(code: u8, out: &mut [u8]) -> Result<usize, Refusal>
         × (out.new ≡ output_after out.old (naming code (length out.old))) }
 {
     let Part { start, size } = name(code);
+    // a reserved code: no call that copies nothing
+    if size == 0 {
+        return Ok(0);
+    }
     if out.len() < size {
         return Err(Reason::Output.at(size as u32));
     }

@@ -47,37 +47,37 @@ impl<const N: usize> Input<N> {
         Ok(())
     }
 
-    // The next octet, or none at the input's end.
-    fn octet<R: Read>(&mut self, from: &mut R) -> Result<Option<u8>, Failure> {
-        self.ready(from)?;
-        if self.at == self.end {
-            return Ok(None);
-        }
-        let octet = self.piece[self.at];
-        self.at += 1;
-        Ok(Some(octet))
-    }
-
     // Takes so many octets, or fewer at the input's end, and keeps those that there is room for. Answers how many there
-    // were.
+    // were. No piece is read where no octet is wanted of it; each turn but the last takes one octet at least.
     pub fn take<R: Read>(
         &mut self,
         from: &mut R,
         kept: &mut [u8],
         want: usize,
     ) -> Result<usize, Failure> {
-        for count in 0..want {
-            match self.octet(from)? {
-                Some(octet) => keep(kept, count, octet),
-                None => return Ok(count),
+        let mut count = 0;
+        for _ in 0..want {
+            if count == want {
+                break;
             }
+            self.ready(from)?;
+            let size = (self.end - self.at).min(want - count);
+            if size == 0 {
+                break;
+            }
+            let behind = self.at + size;
+            let piece = &self.piece[..];
+            keep(kept, count, &piece[self.at..behind]);
+            self.at = behind;
+            count += size;
         }
-        Ok(want)
+        Ok(count)
     }
 }
 
-fn keep(kept: &mut [u8], at: usize, octet: u8) {
+fn keep(kept: &mut [u8], at: usize, octets: &[u8]) {
     if at < kept.len() {
-        kept[at] = octet;
+        let size = octets.len().min(kept.len() - at);
+        kept[at..at + size].copy_from_slice(&octets[..size]);
     }
 }

@@ -1,8 +1,8 @@
-// Output, written once the longest lines have no room behind what waits.
+// Output, written once the longest lines of all have no room behind what waits.
 ghost use Rattle.std.specs.Prelude.{◌≤◌};
 
 use super::{Failure, write};
-use lines::{Kept, NoRoom, Subject};
+use lines::{Kept, LONGEST_PACKAGE, NoRoom, Subject};
 use std::io::Write;
 
 // Lines that wait to be written, in the first octets of a text.
@@ -28,7 +28,8 @@ impl<const N: usize> Output<N> {
         write(to, &self.text[..filled])
     }
 
-    // A whole field: answers what is kept behind it. An empty text has room for the longest lines.
+    // A whole field: answers what is kept behind it. An empty text has room for the longest lines. When lines are
+    // written does not hang on what is listed: once those of a package have no room.
     pub fn list<S: Subject, W: Write>(
         &mut self,
         to: &mut W,
@@ -37,7 +38,7 @@ impl<const N: usize> Output<N> {
         contents: &[u8],
         table: &mut [u16],
     ) -> Result<Kept, Failure> {
-        if N - self.filled < S::LONGEST {
+        if N - self.filled < S::LONGEST.max(LONGEST_PACKAGE) {
             self.write(to)?;
         }
         match lines::list_field::<S>(kept, tag, contents, table, &mut self.text, self.filled) {

@@ -5,6 +5,7 @@ use Rattle.element.specs.Octets.{Octets, if}
 use Rattle.element.specs.Answer.{Answer, accepted, refused}
 use Rattle.operation.specs.Caller.{Told}
 use Rattle.lines.specs.declared.NoRoom as N
+use Rattle.lines.specs.declared.component_lines.Figures as G
 use Rattle.lines.specs.Decimal.{decimal}
 
 abbrev pub blank : ℕ
@@ -24,6 +25,15 @@ row item answer detail named other =
 -- five numbers of twenty digits, and the octet behind each
 abbrev pub longest : ℕ
 longest = 105
+
+-- the line of an item, of whatever figures
+abbrev pub line_said : (item : ℕ) → G.Figures → Octets
+line_said item f = row item f.answer f.detail f.named f.other
+
+-- the figures of an answer: accepted is 0, detail 0; the counts are 0 on refusal
+abbrev pub figures_of : Answer Told → G.Figures
+figures_of (accepted t) = record { answer = 0; detail = 0; named = t.named; other = t.other }
+figures_of (refused number detail) = record { answer = number; detail = detail; named = 0; other = 0 }
 
 -- accepted is 0, detail 0; the counts are 0 on refusal
 unfoldable pub line_of : (item : ℕ) → Answer Told → Octets

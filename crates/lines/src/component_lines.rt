@@ -1,8 +1,8 @@
 // The listing of components on values and slices: the line of a reading.
-ghost use Rattle.std.specs.Prelude.{◌≡◌, refl};
+ghost use Rattle.std.specs.Prelude.{◌≡◌, ℕ, refl};
 ghost use Rattle.element.specs.Field.{output_after};
 ghost use Rattle.operation.specs.Told.{answer_in};
-ghost use Rattle.lines.specs.Line.{line_of, line_written, longest};
+ghost use Rattle.lines.specs.Line.{figures_of, line_of, line_said, line_written, longest};
 ghost use Rattle.lines.specs.Listing.{components};
 
 use super::rows::Row;
@@ -34,7 +34,8 @@ impl Subject for Components {
         out: &mut [u8],
         at: usize,
     ) -> Result<usize, NoRoom> {
-        write_line(item, operation::read(contents, specifier, table), out, at)
+        let reading = operation::read(contents, specifier, table);
+        write_line(item, Figures::from(reading), out, at)
     }
 
     ghost tag_is = { refl };
@@ -42,20 +43,43 @@ impl Subject for Components {
     ghost longest_is = { refl };
 }
 
-// The line of an item, into a lent output at a position: item, answer, detail, named and other, the counts 0 where the
-// component is refused, and answer and detail 0 where it is accepted.
-pub fn write_line(
-    item: u64,
-    reading: Result<Reading, Refusal>,
-    out: &mut [u8],
-    at: usize,
-) -> Result<usize, NoRoom>
-    ensures { (result ≡ line_written (line_of item (answer_in reading)) at out.old)
-        × (out.new ≡ output_after (line_of item (answer_in reading)) at out.old) }
+// What a line says behind the number of its item, of any answer, also of one that no reader gives.
+#[derive(Clone, Copy, Debug, PartialEq, Eq)]
+pub struct Figures {
+    pub answer: u8,
+    pub detail: u32,
+    pub named: usize,
+    pub other: usize,
+}
+
+// Of a reading: the counts are 0 where the component is refused, answer and detail where it is accepted.
+impl From<Result<Reading, Refusal>> for Figures {
+    ghost from_gives = { λ reading figures. (figures ≡ figures_of (answer_in reading))
+        × ((item : ℕ) → line_said item figures ≡ line_of item (answer_in reading)) };
+
+    #[tactic(auto, unfolding(crate::specs::Line::line_of))]
+    fn from(reading: Result<Reading, Refusal>) -> Self {
+        match reading {
+            Ok(reading) => Figures {
+                answer: 0,
+                detail: 0,
+                named: reading.named,
+                other: reading.other,
+            },
+            Err(refusal) => Figures {
+                answer: refusal.reason.number(),
+                detail: refusal.detail,
+                named: 0,
+                other: 0,
+            },
+        }
+    }
+}
+
+// The line of an item, into a lent output at a position: item, answer, detail, named and other.
+pub fn write_line(item: u64, figures: Figures, out: &mut [u8], at: usize) -> Result<usize, NoRoom>
+    ensures { (result ≡ line_written (line_said item figures) at out.old)
+        × (out.new ≡ output_after (line_said item figures) at out.old) }
 {
-    let row = match reading {
-        Ok(reading) => Row::accepted(item, reading.named as u64, reading.other as u64),
-        Err(refusal) => Row::refused(item, refusal),
-    };
-    row.write(out, at)
+    Row::of(item, figures).write(out, at)
 }

@@ -12,7 +12,7 @@ ghost use Rattle.lines.specs.Line.{line_written};
 ghost use Rattle.lines.specs.Listing as Listing;
 ghost use Rattle.lines.specs.Listing.{tagged, start, after, listed, table_left, text_left};
 
-pub use component_lines::{Components, LONGEST, write_line};
+pub use component_lines::{Components, Figures, LONGEST, write_line};
 pub use package_lines::{LONGEST_PACKAGE, Packages};
 use rows::has_room;
 use std::error::Error;

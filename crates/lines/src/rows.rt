@@ -3,10 +3,10 @@ ghost use Rattle.std.specs.Prelude.{◌≡◌, ◌+◌, ◌≤◌, length, nat_l
 ghost use Rattle.element.specs.Field.{output_after};
 ghost use Rattle.element.specs.Told.{number_of};
 ghost use Rattle.lines.specs.Decimal.{decimal};
-ghost use Rattle.lines.specs.Line.{cell, row, longest, line_written, Front};
+ghost use Rattle.lines.specs.Line.{cell, row, longest, line_said, line_written, Front};
 ghost use Rattle.lines.specs.inner.Rows.{row_of};
 
-use super::{LONGEST, NoRoom};
+use super::{Figures, LONGEST, NoRoom};
 use element::Refusal;
 
 #[derive(Clone, Copy)]
@@ -19,6 +19,18 @@ pub struct Row {
 }
 
 impl Row {
+    pub fn of(item: u64, figures: Figures) -> Self
+        ensures { row_of result ≡ line_said item figures }
+    {
+        Row {
+            item,
+            answer: u64::from(figures.answer),
+            detail: u64::from(figures.detail),
+            named: figures.named as u64,
+            other: figures.other as u64,
+        }
+    }
+
     // Of an item that is accepted; the two counts of a component, or what stands in their place.
     pub fn accepted(item: u64, named: u64, other: u64) -> Self
         ensures { row_of result ≡ row item 0 0 named other }

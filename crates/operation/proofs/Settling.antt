@@ -10,9 +10,9 @@ use Rattle.element.specs.Answer.{accepted, refused}
 use Rattle.operation.specs.Row.{Row, Item, one_of, group_last}
 use Rattle.operation.specs.Judge.{last_mark, present}
 use Rattle.operation.specs.Finding.{row_of}
-use Rattle.operation.specs.inner.Coded.{holds, keys_in, words_of, apart, must_of, group_of, between, sound, Asks, judgement, verdict, judged_in, Judges}
-use Rattle.operation.specs.inner.Firsts.{lacking, Clear}
-use Rattle.std.specs.Prelude.{Result}
+use Rattle.operation.specs.inner.Coded.{holds, keys_in, words_of, apart, must_of, group_of, between, sound, Names, Asks, judgement, verdict, fault_in, judged_in, Judges}
+use Rattle.operation.specs.inner.Firsts.{lacking, Clear, Walked, Faulted, Settles}
+use Rattle.std.specs.Prelude.{Result, Ok, Err}
 use Rattle.operation.specs.declared.engine.RowFault as F
 use Rattle.operation.specs.declared.engine.Notes as N
 use Rattle.operation.proofs.Lines.{each}
@@ -47,12 +47,26 @@ module _ (row : Row) (list group : List ℕ) (one other : ℕ) (notes : N.Notes)
     not_other b = fits λ _. ap (λ t. holds seen one && t) b ∙ and-false (holds seen one)
 
 -- ---- an arm: the words, the lists and the choice that it hands on are those of the paper's row
-module _ (kind : ℕ) {specifier k : ℕ} {row : Row} {list group : List ℕ} {one other : ℕ} {names : List ℕ} {xs : List Item} {r : Result ℕ F.RowFault} where
-  pub arm : specifier ≡ k → row_of kind k 0 ≡ accepted row → names ≡ words_of row (length names) → list ≡ must_of row → group ≡ group_of row →
-      sound row (length names) one other ≡ true → Judges r list group one other names xs → judged_in r ≡ verdict kind specifier xs
-  unfolding sound
-  arm s e w l g h j =
-      let (a, b) = each (apart (length names) (keys_in row)) _ h in
-      let (u, i) = each (group_last row) _ b in
-      let (c, d) = each (between _ _ row) _ i in
-      Verdict.found xs kind s e (j.judged row (record { listed = l; grouped = g; last = u; chosen = c; two = d }) (row_names row w a))
+asked : {row : Row} {names list group : List ℕ} {one other : ℕ} → names ≡ words_of row (length names) → list ≡ must_of row → group ≡ group_of row →
+    sound row (length names) one other ≡ true → Asks row list group one other × Names row names
+unfolding sound
+asked {row} {names} w l g h =
+    let (a, b) = each (apart (length names) (keys_in row)) _ h in
+    let (u, i) = each (group_last row) _ b in
+    let (c, d) = each (between _ _ row) _ i in
+    (record { listed = l; grouped = g; last = u; chosen = c; two = d }, row_names row w a)
+
+module _ (kind : ℕ) {specifier k : ℕ} {row : Row} {names : List ℕ} {xs : List Item} (s : specifier ≡ k) (e : row_of kind k 0 ≡ accepted row)
+    (w : names ≡ words_of row (length names)) where
+  -- what names the fault where its walk stopped, and what settles a walk that came to the end, judge by the row
+  pub faulty : {fault : F.RowFault} {stop : ℕ} → apart (length names) (keys_in row) ≡ true → Walked (Err stop) names xs → Faulted fault names stop xs →
+      fault_in fault ≡ verdict kind specifier xs
+  faulty a t f = let n = row_names row w a in Verdict.found xs kind s e (Verdict.faulty row xs (t row n) (f.judged row n))
+
+  module _ {list group : List ℕ} {one other : ℕ} {r : Result ℕ F.RowFault} (l : list ≡ must_of row) (g : group ≡ group_of row)
+      (h : sound row (length names) one other ≡ true) where
+    pub settled : {notes : N.Notes} → Walked (Ok notes) names xs → Settles r list group one other notes xs → judged_in r ≡ verdict kind specifier xs
+    settled t f = let (a, n) = asked w l g h in Verdict.found xs kind s e (f.judged row a (t row n))
+
+    pub arm : Judges r list group one other names xs → judged_in r ≡ verdict kind specifier xs
+    arm j = let (a, n) = asked w l g h in Verdict.found xs kind s e (j.judged row a n)

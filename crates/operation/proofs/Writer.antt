@@ -3,6 +3,7 @@ use Prim.Native.Nat.{ℕ, zero, suc, ◌+◌, ◌*◌, ◌<◌, ◌≤◌}
 use mathlib.Core.Path.{◌≡◌, refl, sym, ap, ◌∙◌}
 use mathlib.Core.List.{List, [], ◌∷◌}
 use lib.ListN.{length}
+use native.Mathlib.Omega.{arith}
 use borrow.Author.Tests.{le-leb, lt-leb}
 use Rattle.element.specs.Octets.{Octets}
 use Rattle.element.specs.Answer.{Answer, accepted, refused, ◌>>=◌}
@@ -92,26 +93,29 @@ pub each : {A B C : Type 0} (a : Answer A) (f : A → Answer B) (g : A → Answe
 each (accepted x) f g h k = k x refl
 each (refused n d) f g h k = refl
 
--- what is weighed of what was measured
-module _ (kind : ℕ) (id : D.Id) (code : E.Code) (count : ℕ) (t : List ℕ) (source : Octets) where
-  abbrev sizes_in : List Parameter → Answer Sizes
-  sizes_in ps = accepted (sizes_of kind id.count ps)
+-- what is weighed of what was measured, by the word that is wanted of it
+module _ (kind : ℕ) (id : D.Id) (code : E.Code) (count : ℕ) (t : List ℕ) (source : Octets) {A : Type 0} (say : Sizes → A) where
+  abbrev weight : List Parameter → Answer A
+  weight ps = accepted (say (sizes_of kind id.count ps))
 
   pub weighs : {sizes : Sizes} → accepted sizes ≡ measured kind id count t source → {named : ℕ} → accepted named ≡ said kind code.first count t →
-      accepted sizes ≡ weighing_sizes kind id code count t source
-  unfolding measured weighing_sizes
-  weighs e f = e ∙ fits kind id code count t source sizes_in f
+      accepted (say sizes) ≡ after kind id code count t source weight
+  unfolding measured
+  weighs {sizes} e f = go (entries_of kind id count t source) e ∙ fits kind id code count t source weight f
+    where
+      go : (a : Answer (List Parameter)) → accepted sizes ≡ (a >>= λ ps. accepted (sizes_of kind id.count ps)) → accepted (say sizes) ≡ (a >>= weight)
+      go (accepted ps) g = let k : sizes ≡ sizes_of kind id.count ps = cc in rw k refl
+      go (refused n d) g = let z : ◌≡◌ {A = ℕ} 0 1 = cc in absurd (omega arith)
 
   pub weight_refused : {sizes : Sizes} → accepted sizes ≡ measured kind id count t source → {n d : ℕ} → refused n d ≡ said kind code.first count t →
-      refused n d ≡ weighing_sizes kind id code count t source
-  unfolding weighing_sizes
-  weight_refused e f = refuses kind id code count t source sizes_in e f
+      refused n d ≡ after kind id code count t source weight
+  weight_refused e f = refuses kind id code count t source weight e f
 
-  pub no_weight : {n d : ℕ} → refused n d ≡ measured kind id count t source → refused n d ≡ weighing_sizes kind id code count t source
-  unfolding weighing_sizes
-  no_weight e = not_measured kind id code count t source sizes_in e
+  pub no_weight : {n d : ℕ} → refused n d ≡ measured kind id count t source → refused n d ≡ after kind id code count t source weight
+  no_weight e = not_measured kind id code count t source weight e
 
-  -- and the octets of the whole, by themselves
+-- the octets of the whole, by what `weigh_sizes` says
+module _ (kind : ℕ) (id : D.Id) (code : E.Code) (count : ℕ) (t : List ℕ) (source : Octets) where
   whole : (weighing_sizes kind id code count t source >>= λ z. accepted z.whole) ≡ weighing kind id code count t source
   unfolding weighing weighing_sizes
   whole =

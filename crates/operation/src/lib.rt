@@ -188,20 +188,27 @@ pub fn read_from(
         × (table.new ≡ table_after table.old
         (reading_at octets.now from specifier (length table.old))) }
 {
-    // of ones: zeros would be a call of `memset`; and first: behind a way out it would be cleared besides
-    let mut sheet = [1u16; TABLE];
     if table.len() < TABLE {
         return Err(Reason::Table.at(0));
     }
-    let head = component::head_from(octets, from)?;
-    let count = parameters_from(octets, head.set, &mut sheet)?;
-    let operation = operation_of(octets, head, specifier);
-    let entries = Entries {
-        table: &sheet,
-        count,
-    };
-    let judged = judge_sheet(head.kind, operation, entries);
-    finish(octets, head, specifier, count, judged, &sheet, table)
+    match component::head_from(octets, from) {
+        Ok(head) => {
+            let mut sheet = [0u16; TABLE];
+            match parameters_from(octets, head.set, &mut sheet) {
+                Ok(count) => {
+                    let operation = operation_of(octets, head, specifier);
+                    let entries = Entries {
+                        table: &sheet,
+                        count,
+                    };
+                    let judged = judge_sheet(head.kind, operation, entries);
+                    finish(octets, head, specifier, count, judged, &sheet, table)
+                }
+                Err(Refusal { reason, detail }) => Err(reason.at(detail)),
+            }
+        }
+        Err(Refusal { reason, detail }) => Err(reason.at(detail)),
+    }
 }
 
 // Reads a component that is all of the octets.

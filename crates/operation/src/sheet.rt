@@ -26,7 +26,9 @@ fn show(sheet: &mut [u16], i: usize, entry: Entry)
 // The parameters that a component may have.
 const MOST: usize = 64;
 
-// The parameters from `from` to the end of the octets, each shown in the sheet.
+// The parameters from `from` to the end of the octets, each shown in the sheet. A function of its own, so that the loop
+// keeps its registers.
+#[inline(never)]
 pub(crate) fn parameters_from(
     octets: &[u8],
     from: usize,
@@ -51,7 +53,7 @@ pub(crate) fn parameters_from(
                 at = entry.start + entry.size;
                 count += 1;
             }
-            Err(refusal) => break 'parameters Err(refusal),
+            Err(Refusal { reason, detail }) => break 'parameters Err(reason.at(detail)),
         }
     }
 }

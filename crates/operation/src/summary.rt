@@ -49,7 +49,7 @@ pub fn summarize(
 {
     match read_from(octets, from, specifier, table) {
         Ok(reading) => Ok(shown(reading)),
-        Err(refusal) => Err(refusal),
+        Err(Refusal { reason, detail }) => Err(reason.at(detail)),
     }
 }
 

@@ -3,7 +3,7 @@ use Prim.Native.Nat.{ℕ, ◌+◌, ◌-◌, ◌<◌, ◌≤◌}
 use mathlib.Core.Path.{◌≡◌, sym, ap, ◌∙◌}
 use mathlib.Core.List.{List, [], ◌∷◌, ◌++◌, append_assoc, append-nil}
 use lib.ListN.{length, take, drop, set, drop_of_length-le}
-use lib.Seq.{sets, drop-drop}
+use lib.Seq.{sets, take-length, drop-drop}
 use borrow.Author.Tests.{lt-ltb}
 use borrow.Author.Rules.{part_to_end}
 use borrow.Rule.Slice.PartMut.{put_mid}
@@ -20,7 +20,7 @@ use Rattle.element.proofs.LengthLaws as L
 use Rattle.element.proofs.FieldLaws.{put_put, put_stores, held}
 use Rattle.component.specs.Composed.{element}
 use Rattle.component.specs.inner.Emitting.{Put}
-use Rattle.component.proofs.Putting.{stored, then}
+use Rattle.component.proofs.Putting.{stored, then, copied, all_copied}
 
 -- an octet and the shortest length field, by the field's value
 pub field_room : {n room : ℕ} {field : F.Field} → (n < 65536) × (1 + length (shortest n) ≤ room) → field ≡ field_of (shortest n) →
@@ -37,14 +37,13 @@ headed {octet} {n} {size} {out} {field} h e k =
     rw (← k) (ap octets_in e) ∙ held (shortest n) (L.octets f) (L.sizes f) in
     rw g (record { place = omega (arith, ap (λ f. f.size) e); octets = put_stores (octet ∷ shortest n) 0 out (omega arith) })
 
--- an octet, a length below 128 and as many octets behind them
-pub short_put : (octet : ℕ) (s : Octets) {out after : Octets} → (length s < 128) × (2 + length s ≤ length out) → after ≡ s →
-    Put (element (octet ∷ []) s) 0 out (2 + length s) (put_mid 2 (2 + length s - 2) (set (set out 0 octet) 1 (length s)) after)
-unfolding element shortest put
-short_put octet s {out} h e =
-    let n : 2 + length s - 2 ≡ length s = omega arith in
-    rw (lt-ltb (length s) 128 h.0, e, n)
-    (then (stored (octet ∷ length s ∷ []) 0 out (omega arith)) (record { place = omega arith; octets = simp (drop-drop, append_assoc) }) (omega arith))
+-- an octet, a length below 128 and as many octets, copied one by one
+pub short_copied : (octet : ℕ) (s : Octets) {out after : Octets} → (length s < 128) × (2 + length s ≤ length out) →
+    after ≡ copied s 0 2 (set (set out 0 octet) 1 (length s)) (length s) → Put (element (octet ∷ []) s) 0 out (2 + length s) after
+unfolding element shortest
+short_copied octet s {out} h e =
+    rw (lt-ltb (length s) 128 h.0)
+    (then (stored (octet ∷ length s ∷ []) 0 out (omega arith)) (rw take-length at (all_copied s 0 2 _ (length s) (omega arith) e)) (omega arith))
 
 -- ---- a part of the output, put back
 -- the rest of a list from `a` on, as a part of a slice has it

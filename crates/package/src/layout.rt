@@ -27,7 +27,10 @@ pub(crate) fn id_size(kind: u8) -> usize
     }
 }
 
+// Each step of the opening hands a refusal on by its reason and its detail, as those of a component do.
+
 // The element at `at`, whichever octet it begins with.
+#[inline(always)]
 fn element_at(octets: &[u8], at: usize) -> Result<Span, Refusal>
     requires { (at < length octets.now) × (length octets.now ≤ 4096) }
     ensures answer { span_in result ≡ layout_fault (contents octets.now at (at + 1) (length octets.now)) }
@@ -40,6 +43,7 @@ fn element_at(octets: &[u8], at: usize) -> Result<Span, Refusal>
 }
 
 // The element of one identifier octet that is wanted at `at`.
+#[inline(always)]
 fn wanted_at(octets: &[u8], octet: u8, at: usize) -> Result<Span, Refusal>
     requires { (at ≤ length octets.now) × (length octets.now ≤ 4096) }
     ensures answer { span_in result ≡ layout_fault (wanted octets.now octet 22 at (length octets.now)) }
@@ -54,40 +58,43 @@ fn wanted_at(octets: &[u8], octet: u8, at: usize) -> Result<Span, Refusal>
 
 // The component sequence that is wanted behind the transaction IDs, and has to end where the package ends.
 #[tactic(auto, unfolding(crate::specs::Layout::sequence_at))]
+#[inline(always)]
 fn sequence_at(octets: &[u8], ids: Span, at: usize) -> Result<Opening, Refusal>
     requires { (at ≤ length octets.now) × (length octets.now ≤ 4096) }
     ensures answer { opening_in result ≡ sequence_at octets.now (span_said ids) at }
     ensures inside { IfOk result (λ o. (o.ids ≡ ids) × (o.sequence ≡ at) × (at < o.first)
         × (o.first ≤ length octets.now)) }
 {
-    let sequence = wanted_at(octets, 0xE8, at)?;
-    if sequence.end != octets.len() {
-        return Err(Reason::Layout.at(sequence.end as u32));
+    match wanted_at(octets, 0xE8, at) {
+        Ok(sequence) if sequence.end != octets.len() => Err(Reason::Layout.at(sequence.end as u32)),
+        Ok(sequence) => Ok(Opening {
+            ids,
+            sequence: at,
+            first: sequence.start,
+        }),
+        Err(Refusal { reason, detail }) => Err(reason.at(detail)),
     }
-    Ok(Opening {
-        ids,
-        sequence: at,
-        first: sequence.start,
-    })
 }
 
 // The transaction IDs that are wanted at `at`, and the component sequence behind them.
 #[tactic(auto, unfolding(crate::specs::Layout::ids_at))]
+#[inline(always)]
 fn ids_at(octets: &[u8], kind: u8, at: usize) -> Result<Opening, Refusal>
     requires { (at ≤ length octets.now) × (length octets.now ≤ 4096) }
     ensures answer { opening_in result ≡ ids_at octets.now kind at }
     ensures inside { IfOk result (λ o. (o.ids.start ≤ o.ids.end) × (o.sequence < o.first)
         × (o.first ≤ length octets.now)) }
 {
-    let ids = wanted_at(octets, 0xC7, at)?;
-    if ids.end - ids.start != id_size(kind) {
-        return Err(Reason::Layout.at(at as u32));
+    match wanted_at(octets, 0xC7, at) {
+        Ok(ids) if ids.end - ids.start != id_size(kind) => Err(Reason::Layout.at(at as u32)),
+        Ok(ids) => sequence_at(octets, ids, ids.end),
+        Err(Refusal { reason, detail }) => Err(reason.at(detail)),
     }
-    sequence_at(octets, ids, ids.end)
 }
 
 // All that stands before the components.
 #[tactic(auto, unfolding(crate::specs::Layout::opening))]
+#[inline(always)]
 pub(crate) fn opening(octets: &[u8]) -> Result<Opening, Refusal>
     requires { (0 < length octets.now) × (length octets.now ≤ 4096) }
     ensures answer { opening_in result ≡ opening octets.now }
@@ -98,11 +105,11 @@ pub(crate) fn opening(octets: &[u8]) -> Result<Opening, Refusal>
     if !is_package(kind) {
         return Err(Reason::Layout.at(0));
     }
-    let body = element_at(octets, 0)?;
-    if body.end != octets.len() {
-        return Err(Reason::Layout.at(body.end as u32));
+    match element_at(octets, 0) {
+        Ok(body) if body.end != octets.len() => Err(Reason::Layout.at(body.end as u32)),
+        Ok(body) => ids_at(octets, kind, body.start),
+        Err(Refusal { reason, detail }) => Err(reason.at(detail)),
     }
-    ids_at(octets, kind, body.start)
 }
 
 // How many components stand from `first` to the end of the octets, whatever they are.

@@ -100,8 +100,7 @@ fn read_rest(
     }
     let end = end_of(octets, at);
     let given = (specifiers % 256) as u8;
-    // of ones: zeros would be a call of `memset`
-    let mut sheet = [1u16; TABLE];
+    let mut sheet = [0u16; TABLE];
     match operation::summarize(&octets[0..end], at, given, &mut sheet) {
         Ok(summary) => {
             let outline = operation::outline_of(summary);

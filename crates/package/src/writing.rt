@@ -61,11 +61,12 @@ fn put_ids(ids: &[u8], out: &mut [u8]) -> usize
     ensures { (result ≡ 2 + length ids.now)
         × Put (element (0xC7 ∷ []) ids.now) 0 out.old result out.new }
 {
-    let behind = 2 + ids.len();
     out[0] = 0xC7;
     out[1] = ids.len() as u8;
-    out[2..behind].copy_from_slice(ids);
-    behind
+    for (i, id) in ids.iter().enumerate() {
+        out[2 + i] = *id;
+    }
+    2 + ids.len()
 }
 
 // ---- an order, and what is done by it

@@ -2,8 +2,11 @@
 use native.Mathlib.Omega.{arith}
 use borrow.Author.Rules.{rules}
 use Rattle.errors.specs.Table6.{table6, octets_of, names_in, names}
-use Rattle.errors.proofs.Putting.{inside, whole, cramped}
+use Rattle.errors.proofs.Putting.{inside, whole, unnamed, cramped}
 use Rattle.errors.proofs.put_name.Goals as goal
+
+pub returns-then-size-eq0 : goal.returns-then-size-eq0
+returns-then-size-eq0 c = unnamed (search rules) c.name-start.ensures _ c.if-size-eq0.true
 
 pub overflow_cast-size : goal.overflow_cast-size
 overflow_cast-size c = omega (arith, inside (search rules) c.name-start.ensures)

@@ -11,7 +11,7 @@ returns-in-Ok c = rw c.in-Ok.is (omega (arith, rw c.in-Ok.is at c.requires))
 
 pub returns-in-Err : goal.returns-in-Err
 unfolding packed_package
-returns-in-Err c = rw (c.in-Err.is, ← c.number.ensures) c.packed.ensures
+returns-in-Err c = rw (c.in-Err.is, ← c.number.ensures.number) c.packed.ensures
 
 pub overflow_mul-places : goal.overflow_mul-places
 overflow_mul-places c = omega (arith, rw c.in-Ok.is at c.requires)

@@ -22,4 +22,4 @@ returns-then-count-ge-MOST c = rw c.at.ensures (full _ _ _ c.parameters.invarian
 pub returns-in-Err : goal.returns-in-Err
 returns-in-Err c =
     let l = c.parameters in
-    stops _ _ _ l.invariant.3 c.if-octets-at.false (omega arith) (search rules) (sym c.in-Err.ensures.answer)
+    rw c.at-in-Err.ensures (stops _ _ _ l.invariant.3 c.if-octets-at.false (omega arith) (search rules) (sym c.in-Err.ensures.answer))

@@ -5,4 +5,4 @@ use Rattle.operation.proofs.summary.summary_from.Goals as goal
 
 pub returns-in-Err : goal.returns-in-Err
 unfolding packed_reading
-returns-in-Err c = (c.packed.ensures ∙ rw c.number.ensures (ap packed_reading c.in-Err.ensures.refused), c.in-Err.ensures.table)
+returns-in-Err c = (c.packed.ensures ∙ rw c.number.ensures.number (ap packed_reading c.in-Err.ensures.refused), c.in-Err.ensures.table)
